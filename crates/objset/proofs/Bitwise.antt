@@ -1,0 +1,94 @@
+-- The bitwise operators on 64-bit words are the definitions by membership. Assumes nothing.
+use mathlib.Core.Path.{_≡_, refl, sym, ap, ap₂, _∙_, subst}
+use mathlib.Core.Bool.{Bool, true, false, not, _&&_, _||_, true≢false}
+use Prim.Native.Nat.{ℕ, zero, suc, _^_, _≤_, _<_}
+use native.Mathlib.Omega.{arith}
+use native.Mathlib.Nat.{lt-of-lt-of-le, le-of-lt}
+use lib.Bits.{bitAnd, bitOr, and-lt, or-lt}
+use lib.Dec.{eqb, ltb}
+use lib.Pow.{pow-lt, pow-mono}
+use borrow.Author.Tests.{lt-ltb, le-ltb, ltb-true, ltb-false, eqb-true, eqb-false, eq-eqb, ne-eqb}
+use Rattle.objset.specs.Objset.{has, collect, added, joined, meeting, below}
+use Rattle.objset.specs.Digits.{has-or, has-and, has-mask, has-zero, has-past, collect-fits, has-collect, same-digits}
+use Rattle.objset.specs.Laws.{same-members, has-added, has-joined, added-fits, joined-fits, meeting-one, one-meeting, below-member, member-below, member-bound}
+
+-- `a | b` is the union
+pub or-joined : (a b : ℕ) → a < 2 ^ 64 → b < 2 ^ 64 → bitOr a b ≡ joined a b
+or-joined a b ha hb =
+    same-members (bitOr a b) (joined a b) (or-lt 64 a b ha hb) (joined-fits a b)
+    (λ d l. has-or a b d ∙ sym (has-joined a b d ha hb))
+
+-- `s | mask of d` is s with d added
+pub or-added : (s d : ℕ) → s < 2 ^ 64 → d < 64 → bitOr s (2 ^ d) ≡ added s d
+or-added s d hs hd =
+    same-members (bitOr s (2 ^ d)) (added s d) (or-lt 64 s (2 ^ d) hs (pow-lt hd)) (added-fits s d)
+    (λ e l. has-or s (2 ^ d) e ∙ ap (λ (x : Bool). has s e || x) (has-mask d e) ∙ sym (has-added s d e hs hd))
+
+and-false : (b : Bool) → (b && false) ≡ false
+and-false true = refl
+and-false false = refl
+
+-- `a & b` is not 0 if and only if a and b meet
+pub and-meeting : (a b : ℕ) → a < 2 ^ 64 → b < 2 ^ 64 → not (eqb (bitAnd a b) 0) ≡ meeting a b
+and-meeting a b ha hb = go (meeting a b) refl
+  where
+    go : (m : Bool) → meeting a b ≡ m → not (eqb (bitAnd a b) 0) ≡ m
+    go true t =
+        let w = meeting-one a b t in
+        ap not (ne-eqb (bitAnd a b) 0
+        (λ z. true≢false (sym (has-and a b (w .0) ∙ ap₂ _&&_ (w .2) (w .3)) ∙ ap (λ (x : ℕ). has x (w .0)) z ∙ has-zero (w .0))))
+    go false t =
+        ap not (eq-eqb (bitAnd a b) 0
+        (same-members (bitAnd a b) 0 (and-lt 64 a b ha hb) (omega arith)
+        (λ d l. has-and a b d ∙ apart (has a d) (has b d) (λ p q. true≢false (sym (one-meeting a b d ha p q) ∙ t)) ∙ sym (has-zero d))))
+      where
+        apart : (x y : Bool) → (x ≡ true → y ≡ true → ⊥) → (x && y) ≡ false
+        apart true true h = absurd (h refl refl)
+        apart true false h = refl
+        apart false y h = refl
+
+-- `s & mask of d` is not 0 if and only if d is in s
+pub and-has : (s d : ℕ) → s < 2 ^ 64 → d < 64 → not (eqb (bitAnd s (2 ^ d)) 0) ≡ has s d
+and-has s d hs hd = and-meeting s (2 ^ d) hs (pow-lt hd) ∙ go (has s d) refl
+  where
+    go : (m : Bool) → has s d ≡ m → meeting s (2 ^ d) ≡ m
+    go true t = one-meeting s (2 ^ d) d hs t (has-mask d d ∙ eq-eqb d d refl)
+    go false t = only (meeting s (2 ^ d)) refl
+      where
+        only : (q : Bool) → meeting s (2 ^ d) ≡ q → q ≡ false
+        only true u =
+            let w = meeting-one s (2 ^ d) u in
+            sym (w .2) ∙ ap (has s) (eqb-true (w .0) d (sym (has-mask d (w .0)) ∙ w .3)) ∙ t
+        only false u = refl
+
+-- a word below the mask of n lies within the first n objects
+fits-below : (s n : ℕ) → s < 2 ^ n → below s n ≡ true
+fits-below s n h = member-below s n (λ d p. go d p (ltb d n) refl)
+  where
+    go : (d : ℕ) → has s d ≡ true → (b : Bool) → ltb d n ≡ b → d < n
+    go d p true t = ltb-true d n t
+    go d p false t = absurd (true≢false (sym p ∙ has-past s n d h (ltb-false d n t)))
+
+-- a set within the first n objects is the collection of its members below n, so below the mask of n
+below-fits : (s n : ℕ) → s < 2 ^ 64 → n < 64 → below s n ≡ true → s < 2 ^ n
+below-fits s n hs hn e =
+    let same : s ≡ collect n (has s) =
+    same-members s (collect n (has s)) hs (lt-of-lt-of-le (collect-fits n (has s)) (pow-mono (le-of-lt hn)))
+    (λ d l. sym (has-collect n d (has s) ∙ inside d (has s d) refl)) in
+    subst (λ (x : ℕ). x < 2 ^ n) (sym same) (collect-fits n (has s))
+  where
+    inside : (d : ℕ) (b : Bool) → has s d ≡ b → (ltb d n && has s d) ≡ has s d
+    inside d true p = ap (λ (x : Bool). x && has s d) (lt-ltb d n (below-member s n d hs e p))
+    inside d false p = ap (λ (x : Bool). ltb d n && x) p ∙ and-false (ltb d n) ∙ sym p
+
+pub less-below : (s n : ℕ) → s < 2 ^ 64 → n < 64 → ltb s (2 ^ n) ≡ below s n
+less-below s n hs hn = go (ltb s (2 ^ n)) refl (below s n) refl
+  where
+    go : (x : Bool) → ltb s (2 ^ n) ≡ x → (y : Bool) → below s n ≡ y → x ≡ y
+    go true t y u = sym (fits-below s n (ltb-true s (2 ^ n) t)) ∙ u
+    go false t true u = sym t ∙ lt-ltb s (2 ^ n) (below-fits s n hs hn u)
+    go false t false u = refl
+
+-- every set lies within the first n objects, where n is 64 or more
+pub all-below : (s n : ℕ) → s < 2 ^ 64 → 64 ≤ n → below s n ≡ true
+all-below s n hs hn = fits-below s n (lt-of-lt-of-le hs (pow-mono hn))

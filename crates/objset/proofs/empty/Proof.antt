@@ -1,0 +1,11 @@
+-- `objset::empty` meets its contract: the empty word is 0. Assumes nothing.
+use mathlib.Core.Path.{sym}
+use Rattle.objset.specs.Laws.{none-zero}
+use Rattle.objset.proofs.empty.Statement.{statement}
+use Rattle.objset.proofs.empty.Tie as tie
+
+returns : tie.Need-returns
+returns c = sym none-zero
+
+pub empty-spec : {M : Type 1} → statement M
+empty-spec = tie.close (tie.spec returns)

@@ -1,0 +1,4 @@
+pub mod Objset
+pub mod Digits
+pub mod Laws
+pub mod Words

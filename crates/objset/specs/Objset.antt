@@ -1,0 +1,44 @@
+-- Sets of objects (document 01: sets of cards), said by membership of each object from 0 to 63.
+-- Assumes nothing.
+use mathlib.Core.Bool.{Bool, true, false, cond, not, _&&_, _||_}
+use Prim.Native.Nat.{ℕ, zero, suc, _+_, _/_, _%_, _^_}
+use lib.Dec.{eqb, ltb}
+
+-- object d is in the set s: the digit of s whose mask (document 01: mark) is 2 to the power d is 1
+unfoldable pub has : ℕ → ℕ → Bool
+has s d = eqb (s / 2 ^ d % 2) 1
+
+-- the set of those of the first n objects that pass the test f: the sum of their masks
+unfoldable pub collect : ℕ → (ℕ → Bool) → ℕ
+collect zero f = 0
+collect (suc n) f = cond (f n) (2 ^ n) 0 + collect n f
+
+-- one of the first n objects passes the test f
+unfoldable pub some : ℕ → (ℕ → Bool) → Bool
+some zero f = false
+some (suc n) f = f n || some n f
+
+-- each of the first n objects passes the test f
+unfoldable pub each : ℕ → (ℕ → Bool) → Bool
+each zero f = true
+each (suc n) f = f n && each n f
+
+-- the empty set
+unfoldable pub none : ℕ
+none = collect 64 (λ e. false)
+
+-- the set s with object d added
+unfoldable pub added : ℕ → ℕ → ℕ
+added s d = collect 64 (λ e. has s e || eqb e d)
+
+-- the objects of both sets together
+unfoldable pub joined : ℕ → ℕ → ℕ
+joined a b = collect 64 (λ e. has a e || has b e)
+
+-- some object is in both sets
+unfoldable pub meeting : ℕ → ℕ → Bool
+meeting a b = some 64 (λ e. has a e && has b e)
+
+-- the set lies within the first n objects
+unfoldable pub below : ℕ → ℕ → Bool
+below s n = each 64 (λ e. not (has s e) || ltb e n)
