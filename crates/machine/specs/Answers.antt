@@ -1,0 +1,63 @@
+-- Document 01's number and values for each case of the answer enum, and the test that two answers are the same.
+-- Assumes nothing.
+use mathlib.Core.Bool.{Bool, true, false, _&&_}
+use mathlib.Core.List.{List, [], _∷_}
+use Prim.Native.Nat.{ℕ}
+use lib.Dec.{eqb}
+use Rattle.machine.specs.declared.Answer.{Answer}
+use Rattle.machine.specs.declared.Answer.the-variants.{Ready, Running, Queued, Begun, Value, Written, Waits, Committed, SetBack, Ended, Finished, Refused}
+
+-- the answer's number: its place among the twelve kinds of answer
+unfoldable pub kind : Answer → ℕ
+kind Ready = 0
+kind Running = 1
+kind Queued = 2
+kind (Begun t) = 3
+kind (Value v n) = 4
+kind Written = 5
+kind (Waits c) = 6
+kind (Committed n) = 7
+kind SetBack = 8
+kind Ended = 9
+kind (Finished j) = 10
+kind (Refused n) = 11
+
+-- the answer's values: begin's ticket, read's value and version, the core named by waits, commit's setbacks, finish's job,
+-- refusal's number
+unfoldable pub values : Answer → List ℕ
+values Ready = []
+values Running = []
+values Queued = []
+values (Begun t) = t ∷ []
+values (Value v n) = v ∷ n ∷ []
+values Written = []
+values (Waits c) = c ∷ []
+values (Committed n) = n ∷ []
+values SetBack = []
+values Ended = []
+values (Finished j) = j ∷ []
+values (Refused n) = n ∷ []
+
+-- the core that an answer of waits names; 0 for any other
+unfoldable pub named : Answer → ℕ
+named Ready = 0
+named Running = 0
+named Queued = 0
+named (Begun t) = 0
+named (Value v n) = 0
+named Written = 0
+named (Waits c) = c
+named (Committed n) = 0
+named SetBack = 0
+named Ended = 0
+named (Finished j) = 0
+named (Refused n) = 0
+
+unfoldable pub sameList : List ℕ → List ℕ → Bool
+sameList [] [] = true
+sameList [] (y ∷ ys) = false
+sameList (x ∷ xs) [] = false
+sameList (x ∷ xs) (y ∷ ys) = eqb x y && sameList xs ys
+
+unfoldable pub sameAnswer : Answer → Answer → Bool
+sameAnswer a b = eqb (kind a) (kind b) && sameList (values a) (values b)

@@ -1,0 +1,252 @@
+-- What a call that follows the rule can have done: the cases of the rule with the conditions that led to each, so that proofs
+-- about runs go by these cases and never open the rule again. Assumes nothing.
+use mathlib.Core.Path.{_≡_, refl, sym, subst₂, _∙_}
+use mathlib.Core.Bool.{Bool, true, false, cond, not, _&&_, true≢false}
+use mathlib.Core.List.{List, [], _∷_}
+use Prim.Native.Nat.{ℕ, zero, suc, _*_, _≤_, _<_}
+use native.Mathlib.Omega.{arith}
+use lib.Dec.{eqb, leb, ltb}
+use lib.ListN.{length}
+use borrow.Author.Tests.{ltb-true, leb-false, eqb-true, eqb-false, not-false}
+use Rattle.machine.specs.declared.Machine.{Machine}
+use Rattle.machine.specs.declared.Core.{Core}
+use Rattle.machine.specs.declared.Answer.{Answer}
+use Rattle.machine.specs.declared.Answer.the-variants.{Ready, Running, Queued, Begun, Value, Written, Waits, Committed, SetBack, Ended, Finished, Refused}
+use Rattle.machine.specs.declared.Outcome.{Outcome}
+use Rattle.machine.specs.Record.{coreAt}
+use Rattle.machine.specs.Sound.{sound}
+use Rattle.machine.specs.Answers.{named}
+use Rattle.machine.specs.Rule.{World, Result, withMachine, first, unless, unlessLent, misfit, unsound, wrongTables, noSuchCore, noSuchObject, fullList, jobless, inProgress, ticketsSpent, released, release, begun, begin, told, accessRefusal, valueRead, valued, read, written, write, contender, blocked, through, waiting, commit, ended, giveUp, finished, finish, rule, unlent, Call, Release, Begin, Read, Write, Commit, GiveUp, Finish, coreOf}
+
+-- what the promise of a call says of it: the answer and the next world are the rule's, and the core that waits names holds a
+-- conflicting transaction with a smaller ticket
+pub record Follows (w : World) (call : Call) (a : Answer) (w′ : World) : Type 0 where
+  pub answer-is : a ≡ rule (named a) w call .answer
+  pub world-is : w′ ≡ rule (named a) w call .world
+  pub waits-for : (e : ℕ) → a ≡ Waits e → contender (w .machine) (coreOf call) e ≡ true
+
+-- the record is sound and the core is one of the machine's
+pub record Core-ok (m : Machine) (c : ℕ) : Type 0 where
+  pub is-sound : sound m ≡ true
+  pub is-core : c < m .cores
+
+-- besides, both tables have their length, and a transaction is in progress on the core
+pub record Lent-ok (w : World) (c : ℕ) : Type 0 where
+  pub core-ok : Core-ok (w .machine) c
+  pub committed-long : length (w .committed) ≡ w .machine .objects
+  pub pending-long : length (w .pending) ≡ w .machine .cores * w .machine .objects
+  pub active : coreAt (w .machine) c .active ≡ true
+
+-- a read, write or commit on core c
+pub data Asks : Call → ℕ → Type 0 where
+  asks-read : {c d : ℕ} → Asks (Read c d) c
+  asks-write : {c d v : ℕ} → Asks (Write c d v) c
+  asks-commit : {c : ℕ} → Asks (Commit c) c
+
+pub data Case (w : World) : Call → Answer → World → Type 0 where
+  is-refused : {call : Call} {n : ℕ} → Case w call (Refused (suc n)) w
+  is-released : {c number deadline : ℕ} → Core-ok (w .machine) c → coreAt (w .machine) c .count < 8
+      → Case w (Release c number deadline) (released (w .machine) c (record { number = number; deadline = deadline }) .answer)
+      (withMachine w (released (w .machine) c (record { number = number; deadline = deadline }) .machine))
+  is-begun : {c : ℕ} → Core-ok (w .machine) c → (coreAt (w .machine) c .count ≡ 0 → ⊥) → coreAt (w .machine) c .active ≡ false
+      → w .machine .tickets < 4294967295 → Case w (Begin c) (Begun (w .machine .tickets)) (withMachine w (begun (w .machine) c .machine))
+  is-told : {call : Call} {c : ℕ} → Asks call c → Lent-ok w c → coreAt (w .machine) c .zombie ≡ true → Case w call SetBack (told w c .world)
+  is-valued : {c d : ℕ} → Lent-ok w c → d < w .machine .objects → coreAt (w .machine) c .zombie ≡ false
+      → Case w (Read c d) (valued w c d .answer) (valued w c d .world)
+  is-written : {c d v : ℕ} → Lent-ok w c → d < w .machine .objects → coreAt (w .machine) c .zombie ≡ false
+      → Case w (Write c d v) Written (written w c d v .world)
+  is-waiting : {c e : ℕ} → Lent-ok w c → coreAt (w .machine) c .zombie ≡ false → contender (w .machine) c e ≡ true
+      → Case w (Commit c) (Waits e) w
+  is-through : {c : ℕ} → Lent-ok w c → coreAt (w .machine) c .zombie ≡ false → blocked (w .machine) c ≡ false
+      → Case w (Commit c) (Committed (coreAt (w .machine) c .aborts)) (through w c .world)
+  is-ended : {c : ℕ} → Core-ok (w .machine) c → coreAt (w .machine) c .active ≡ true
+      → Case w (GiveUp c) Ended (withMachine w (ended (w .machine) c .machine))
+  is-finished : {c : ℕ} → Core-ok (w .machine) c → (coreAt (w .machine) c .count ≡ 0 → ⊥) → coreAt (w .machine) c .active ≡ false
+      → Case w (Finish c) (finished (w .machine) c .answer) (withMachine w (finished (w .machine) c .machine))
+
+-- ---- no refusal applies: none of its conditions holds
+
+passed : (b : Bool) (n : ℕ) (xs : List (Bool × ℕ)) → first ((b, suc n) ∷ xs) ≡ 0 → (b ≡ false) × (first xs ≡ 0)
+unfolding first
+passed true n xs e = absurd (omega arith)
+passed false n xs e = (refl, e)
+
+core-ok : (m : Machine) (c : ℕ) → unsound m ≡ false → noSuchCore m c ≡ false → Core-ok m c
+core-ok m c s l = record { is-sound = not-false (sound m) s; is-core = ltb-true c (m .cores) (not-false (ltb c (m .cores)) l) }
+
+both : (a b : Bool) → not (a && b) ≡ false → (a ≡ true) × (b ≡ true)
+both true true e = (refl, refl)
+both true false e = absurd (true≢false e)
+both false b e = absurd (true≢false e)
+
+lent-ok : (w : World) (c : ℕ) → Core-ok (w .machine) c → wrongTables w ≡ false → not (coreAt (w .machine) c .active) ≡ false → Lent-ok w c
+lent-ok w c ok t a =
+    let fit = both (eqb (length (w .committed)) (w .machine .objects)) (eqb (length (w .pending)) (w .machine .cores * w .machine .objects)) t in
+    record {
+      core-ok = ok;
+      committed-long = eqb-true (length (w .committed)) (w .machine .objects) (fit .0);
+      pending-long = eqb-true (length (w .pending)) (w .machine .cores * w .machine .objects) (fit .1);
+      active = not-false (coreAt (w .machine) c .active) a;
+    }
+
+-- ---- the rule of each call, by cases
+
+release-case : (w : World) (c number deadline : ℕ)
+    → Case w (Release c number deadline) (release (w .machine) c number deadline .answer) (withMachine w (release (w .machine) c number deadline .machine))
+unfolding release
+release-case w c number deadline = go (first tests) refl
+  where
+    m : Machine
+    m = w .machine
+
+    tests : List (Bool × ℕ)
+    tests = (unsound m, 2) ∷ (noSuchCore m c, 4) ∷ (fullList m c, 6) ∷ []
+
+    done : Outcome
+    done = released m c (record { number = number; deadline = deadline })
+
+    go : (r : ℕ) → first tests ≡ r
+        → Case w (Release c number deadline) (unless r m done .answer) (withMachine w (unless r m done .machine))
+    go zero e =
+        let p = passed (unsound m) 1 ((noSuchCore m c, 4) ∷ (fullList m c, 6) ∷ []) e in
+        let q = passed (noSuchCore m c) 3 ((fullList m c, 6) ∷ []) (p .1) in
+        let r = passed (fullList m c) 5 [] (q .1) in
+        unfold unless in is-released (core-ok m c (p .0) (q .0)) (leb-false 8 (coreAt m c .count) (r .0))
+    go (suc n) e = unfold unless in is-refused
+
+begin-case : (w : World) (c : ℕ) → Case w (Begin c) (begin (w .machine) c .answer) (withMachine w (begin (w .machine) c .machine))
+unfolding begin
+begin-case w c = go (first tests) refl
+  where
+    m : Machine
+    m = w .machine
+
+    tests : List (Bool × ℕ)
+    tests = (unsound m, 2) ∷ (noSuchCore m c, 4) ∷ (jobless m c, 7) ∷ (inProgress m c, 8) ∷ (ticketsSpent m, 10) ∷ []
+
+    go : (r : ℕ) → first tests ≡ r → Case w (Begin c) (unless r m (begun m c) .answer) (withMachine w (unless r m (begun m c) .machine))
+    go zero e =
+        let p = passed (unsound m) 1 ((noSuchCore m c, 4) ∷ (jobless m c, 7) ∷ (inProgress m c, 8) ∷ (ticketsSpent m, 10) ∷ []) e in
+        let q = passed (noSuchCore m c) 3 ((jobless m c, 7) ∷ (inProgress m c, 8) ∷ (ticketsSpent m, 10) ∷ []) (p .1) in
+        let r = passed (jobless m c) 6 ((inProgress m c, 8) ∷ (ticketsSpent m, 10) ∷ []) (q .1) in
+        let s = passed (inProgress m c) 7 ((ticketsSpent m, 10) ∷ []) (r .1) in
+        let t = passed (ticketsSpent m) 9 [] (s .1) in
+        unfold unless begun in
+        is-begun (core-ok m c (p .0) (q .0)) (eqb-false (coreAt m c .count) 0 (r .0)) (s .0) (leb-false 4294967295 (m .tickets) (t .0))
+    go (suc n) e = unfold unless in is-refused
+
+give-up-case : (w : World) (c : ℕ) → Case w (GiveUp c) (giveUp (w .machine) c .answer) (withMachine w (giveUp (w .machine) c .machine))
+unfolding giveUp
+give-up-case w c = go (first tests) refl
+  where
+    m : Machine
+    m = w .machine
+
+    tests : List (Bool × ℕ)
+    tests = (unsound m, 2) ∷ (noSuchCore m c, 4) ∷ (not (inProgress m c), 9) ∷ []
+
+    go : (r : ℕ) → first tests ≡ r → Case w (GiveUp c) (unless r m (ended m c) .answer) (withMachine w (unless r m (ended m c) .machine))
+    go zero e =
+        let p = passed (unsound m) 1 ((noSuchCore m c, 4) ∷ (not (inProgress m c), 9) ∷ []) e in
+        let q = passed (noSuchCore m c) 3 ((not (inProgress m c), 9) ∷ []) (p .1) in
+        let r = passed (not (inProgress m c)) 8 [] (q .1) in
+        unfold unless ended in is-ended (core-ok m c (p .0) (q .0)) (not-false (inProgress m c) (r .0))
+    go (suc n) e = unfold unless in is-refused
+
+finish-case : (w : World) (c : ℕ) → Case w (Finish c) (finish (w .machine) c .answer) (withMachine w (finish (w .machine) c .machine))
+unfolding finish
+finish-case w c = go (first tests) refl
+  where
+    m : Machine
+    m = w .machine
+
+    tests : List (Bool × ℕ)
+    tests = (unsound m, 2) ∷ (noSuchCore m c, 4) ∷ (jobless m c, 7) ∷ (inProgress m c, 8) ∷ []
+
+    go : (r : ℕ) → first tests ≡ r → Case w (Finish c) (unless r m (finished m c) .answer) (withMachine w (unless r m (finished m c) .machine))
+    go zero e =
+        let p = passed (unsound m) 1 ((noSuchCore m c, 4) ∷ (jobless m c, 7) ∷ (inProgress m c, 8) ∷ []) e in
+        let q = passed (noSuchCore m c) 3 ((jobless m c, 7) ∷ (inProgress m c, 8) ∷ []) (p .1) in
+        let r = passed (jobless m c) 6 ((inProgress m c, 8) ∷ []) (q .1) in
+        let s = passed (inProgress m c) 7 [] (r .1) in
+        unfold unless in is-finished (core-ok m c (p .0) (q .0)) (eqb-false (coreAt m c .count) 0 (r .0)) (s .0)
+    go (suc n) e = unfold unless in is-refused
+
+-- what no refusal of read and write leaves
+access-ok : (w : World) (c d : ℕ) → accessRefusal w c d ≡ 0 → Lent-ok w c × (d < w .machine .objects)
+unfolding accessRefusal
+access-ok w c d e =
+    let p = passed (unsound m) 1 ((wrongTables w, 3) ∷ (noSuchCore m c, 4) ∷ (noSuchObject m d, 5) ∷ (not (inProgress m c), 9) ∷ []) e in
+    let q = passed (wrongTables w) 2 ((noSuchCore m c, 4) ∷ (noSuchObject m d, 5) ∷ (not (inProgress m c), 9) ∷ []) (p .1) in
+    let r = passed (noSuchCore m c) 3 ((noSuchObject m d, 5) ∷ (not (inProgress m c), 9) ∷ []) (q .1) in
+    let s = passed (noSuchObject m d) 4 ((not (inProgress m c), 9) ∷ []) (r .1) in
+    let t = passed (not (inProgress m c)) 8 [] (s .1) in
+    (lent-ok w c (core-ok m c (p .0) (r .0)) (q .0) (t .0), ltb-true d (m .objects) (not-false (ltb d (m .objects)) (s .0)))
+  where
+    m : Machine
+    m = w .machine
+
+read-case : (w : World) (c d : ℕ) → Case w (Read c d) (read w c d .answer) (read w c d .world)
+unfolding read
+read-case w c d = go (accessRefusal w c d) refl (coreAt (w .machine) c .zombie) refl
+  where
+    go : (r : ℕ) → accessRefusal w c d ≡ r → (z : Bool) → coreAt (w .machine) c .zombie ≡ z
+        → Case w (Read c d) (unlessLent r w (cond z (told w c) (valued w c d)) .answer) (unlessLent r w (cond z (told w c) (valued w c d)) .world)
+    go zero e true z = unfold unlessLent told in is-told asks-read (access-ok w c d e .0) z
+    go zero e false z = let ok = access-ok w c d e in unfold unlessLent in is-valued (ok .0) (ok .1) z
+    go (suc n) e z t = unfold unlessLent in is-refused
+
+write-case : (w : World) (c d v : ℕ) → Case w (Write c d v) (write w c d v .answer) (write w c d v .world)
+unfolding write
+write-case w c d v = go (accessRefusal w c d) refl (coreAt (w .machine) c .zombie) refl
+  where
+    go : (r : ℕ) → accessRefusal w c d ≡ r → (z : Bool) → coreAt (w .machine) c .zombie ≡ z
+        → Case w (Write c d v) (unlessLent r w (cond z (told w c) (written w c d v)) .answer) (unlessLent r w (cond z (told w c) (written w c d v)) .world)
+    go zero e true z = unfold unlessLent told in is-told asks-write (access-ok w c d e .0) z
+    go zero e false z = let ok = access-ok w c d e in unfold unlessLent written in is-written (ok .0) (ok .1) z
+    go (suc n) e z t = unfold unlessLent in is-refused
+
+-- the core e that waits names contends, where the answer is waits
+commit-case : (w : World) (c e : ℕ) → (commit e w c .answer ≡ Waits e → contender (w .machine) c e ≡ true)
+    → Case w (Commit c) (commit e w c .answer) (commit e w c .world)
+unfolding commit
+commit-case w c e = go (first tests) refl (coreAt m c .zombie) refl (blocked m c) refl
+  where
+    m : Machine
+    m = w .machine
+
+    tests : List (Bool × ℕ)
+    tests = (unsound m, 2) ∷ (wrongTables w, 3) ∷ (noSuchCore m c, 4) ∷ (not (inProgress m c), 9) ∷ []
+
+    ok : first tests ≡ 0 → Lent-ok w c
+    ok z =
+        let p = passed (unsound m) 1 ((wrongTables w, 3) ∷ (noSuchCore m c, 4) ∷ (not (inProgress m c), 9) ∷ []) z in
+        let q = passed (wrongTables w) 2 ((noSuchCore m c, 4) ∷ (not (inProgress m c), 9) ∷ []) (p .1) in
+        let r = passed (noSuchCore m c) 3 ((not (inProgress m c), 9) ∷ []) (q .1) in
+        let s = passed (not (inProgress m c)) 8 [] (r .1) in
+        lent-ok w c (core-ok m c (p .0) (r .0)) (q .0) (s .0)
+
+    done : ℕ → Bool → Bool → Result
+    done r z b = unlessLent r w (cond z (told w c) (cond b (waiting w e) (through w c)))
+
+    go : (r : ℕ) → first tests ≡ r → (z : Bool) → coreAt m c .zombie ≡ z → (b : Bool) → blocked m c ≡ b
+        → (done r z b .answer ≡ Waits e → contender m c e ≡ true) → Case w (Commit c) (done r z b .answer) (done r z b .world)
+    go zero t true z b u waits = unfold unlessLent told in is-told asks-commit (ok t) z
+    go zero t false z true u waits = unfold unlessLent in is-waiting (ok t) z (waits refl)
+    go zero t false z false u waits = unfold unlessLent through in is-through (ok t) z u
+    go (suc n) t z y b u waits = unfold unlessLent in is-refused
+
+-- a call that follows the rule is one of the cases
+pub case-of : {w : World} {call : Call} {a : Answer} {w′ : World} → Follows w call a w′ → Case w call a w′
+unfolding rule
+case-of {w} {call} {a} {w′} f =
+    subst₂ (λ (b : Answer) (v : World). Case w call b v) (sym (f .answer-is)) (sym (f .world-is)) (go call (named a) (λ e. f .waits-for (named a) (f .answer-is ∙ e)))
+  where
+    go : (x : Call) (e : ℕ) → (rule e w x .answer ≡ Waits e → contender (w .machine) (coreOf x) e ≡ true) → Case w x (rule e w x .answer) (rule e w x .world)
+    go (Release c number deadline) e waits = release-case w c number deadline
+    go (Begin c) e waits = begin-case w c
+    go (Read c d) e waits = read-case w c d
+    go (Write c d v) e waits = write-case w c d v
+    go (Commit c) e waits = commit-case w c e waits
+    go (GiveUp c) e waits = give-up-case w c
+    go (Finish c) e waits = finish-case w c

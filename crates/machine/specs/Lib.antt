@@ -1,0 +1,6 @@
+pub mod Record
+pub mod Sound
+pub mod Answers
+pub mod Rule
+pub mod Case
+pub mod Examples

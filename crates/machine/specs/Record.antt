@@ -1,0 +1,71 @@
+-- The record's parts: a core, a job, what is blank, and one core put in another's place. Assumes nothing.
+use mathlib.Core.Bool.{Bool, true, false, cond, _&&_, _||_}
+use mathlib.Core.List.{List, [], _∷_}
+use Prim.Native.Nat.{ℕ, zero, suc, _+_, _<_}
+use lib.Dec.{ltb}
+use lib.ListN.{getD, set, replicate}
+use Rattle.objset.specs.Objset.{none, joined}
+use Rattle.machine.specs.declared.Machine.{Machine}
+use Rattle.machine.specs.declared.Core.{Core}
+use Rattle.machine.specs.declared.Job.{Job}
+
+-- what stands in an unused job place
+abbrev pub noJob : Job
+noJob = record { number = 0; deadline = 0 }
+
+-- what is read past the end of the list of cores, which no call does
+abbrev pub noCore : Core
+noCore = record { jobs = []; count = 0; active = false; owner = 0; ticket = 0; aborts = 0; zombie = false; reads = 0; writes = 0 }
+
+abbrev pub coreAt : Machine → ℕ → Core
+coreAt m c = getD (m .core) c noCore
+
+abbrev pub jobAt : Core → ℕ → Job
+jobAt k p = getD (k .jobs) p noJob
+
+-- a core with these jobs and no transaction: empty sets, no mark, owner's place, ticket and setbacks 0
+abbrev pub idle : List Job → ℕ → Core
+idle jobs n = record { jobs = jobs; count = n; active = false; owner = 0; ticket = 0; aborts = 0; zombie = false; reads = 0; writes = 0 }
+
+-- a core with no job and no transaction
+abbrev pub blankCore : Core
+blankCore = idle (replicate 8 noJob) 0
+
+-- a machine with no job and no transaction, all versions zero; `machineOf 0 0` is the blank record, all fields 0
+abbrev pub machineOf : ℕ → ℕ → Machine
+machineOf cores objects =
+    record { cores = cores; objects = objects; tickets = 0; commits = 0; «give_ups» = 0; core = replicate 16 blankCore; versions = replicate 64 0 }
+
+abbrev pub blank : Machine
+blank = machineOf 0 0
+
+-- the machine with core c replaced
+abbrev pub putCore : Machine → ℕ → Core → Machine
+putCore m c k =
+    record {
+      cores = m .cores;
+      objects = m .objects;
+      tickets = m .tickets;
+      commits = m .commits;
+      «give_ups» = m .«give_ups»;
+      core = set (m .core) c k;
+      versions = m .versions;
+    }
+
+-- data set: read set and write set together
+abbrev pub dataSet : Core → ℕ
+dataSet k = joined (k .reads) (k .writes)
+
+-- how many of the numbers below n pass the test f
+unfoldable pub tally : ℕ → (ℕ → Bool) → ℕ
+tally zero f = 0
+tally (suc n) f = cond (f n) 1 0 + tally n f
+
+-- the place of the job of least deadline among the first n, the first released among equals
+unfoldable pub least : List Job → ℕ → ℕ
+least jobs zero = 0
+least jobs (suc n) = cond (ltb (getD jobs n noJob .deadline) (getD jobs (least jobs n) noJob .deadline)) n (least jobs n)
+
+-- the place of the running job: the transaction's own job while one is in progress, else the job of least deadline
+unfoldable pub running : Core → ℕ
+running k = cond (k .active) (k .owner) (least (k .jobs) (k .count))

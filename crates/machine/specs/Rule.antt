@@ -1,0 +1,396 @@
+-- The eight calls (document 01): for each the answer and what comes after it, refusals first, the smallest that applies.
+-- Assumes nothing.
+use mathlib.Core.Bool.{Bool, true, false, cond, not, _&&_, _||_}
+use mathlib.Core.List.{List, [], _∷_, _++_}
+use Prim.Native.Nat.{ℕ, zero, suc, _+_, _*_, _-_}
+use lib.Dec.{eqb, leb, ltb}
+use lib.ListN.{getD, set, length, replicate, take, drop}
+use Rattle.objset.specs.Objset.{has, some, added, meeting}
+use Rattle.machine.specs.declared.Machine.{Machine}
+use Rattle.machine.specs.declared.Core.{Core}
+use Rattle.machine.specs.declared.Job.{Job}
+use Rattle.machine.specs.declared.Answer.{Answer}
+use Rattle.machine.specs.declared.Answer.the-variants.{Ready, Running, Queued, Begun, Value, Written, Waits, Committed, SetBack, Ended, Finished, Refused}
+use Rattle.machine.specs.declared.Outcome.{Outcome}
+use Rattle.machine.specs.Record.{noJob, coreAt, jobAt, idle, blank, machineOf, putCore, dataSet, least, running}
+use Rattle.machine.specs.Sound.{sound}
+
+-- the record and the two lent tables: the committed values, one per card, and the pending values, cores × cards words
+pub record World : Type 0 where
+  pub machine : Machine
+  pub committed : List ℕ
+  pub pending : List ℕ
+
+-- what a call gives: its answer, and the record and the tables after it
+pub record Result : Type 0 where
+  pub answer : Answer
+  pub world : World
+
+abbrev pub withMachine : World → Machine → World
+withMachine w m = record { machine = m; committed = w .committed; pending = w .pending }
+
+-- the first condition that holds, by its number; 0 where none does
+unfoldable pub first : List (Bool × ℕ) → ℕ
+first [] = 0
+first (x ∷ xs) = cond (x .0) (x .1) (first xs)
+
+-- the number of a refusal takes the place of what an accepted call gives; the record is handed back as given
+unfoldable pub unless : ℕ → Machine → Outcome → Outcome
+unless zero m accepted = accepted
+unless (suc n) m accepted = record { answer = Refused (suc n); machine = m }
+
+-- the same for a call that is lent the tables: they keep every word
+unfoldable pub unlessLent : ℕ → World → Result → Result
+unlessLent zero w accepted = accepted
+unlessLent (suc n) w accepted = record { answer = Refused (suc n); world = w }
+
+-- ---- the conditions of refusals
+
+abbrev pub unsound : Machine → Bool
+unsound m = not (sound m)
+
+-- either table's length is wrong, for a machine of that many cores and cards
+abbrev pub misfit : ℕ → ℕ → List ℕ → List ℕ → Bool
+misfit cores objects committed pending = not (eqb (length committed) objects && eqb (length pending) (cores * objects))
+
+abbrev pub wrongTables : World → Bool
+wrongTables w = misfit (w .machine .cores) (w .machine .objects) (w .committed) (w .pending)
+
+abbrev pub noSuchCore : Machine → ℕ → Bool
+noSuchCore m c = not (ltb c (m .cores))
+
+abbrev pub noSuchObject : Machine → ℕ → Bool
+noSuchObject m d = not (ltb d (m .objects))
+
+abbrev pub fullList : Machine → ℕ → Bool
+fullList m c = leb 8 (coreAt m c .count)
+
+abbrev pub jobless : Machine → ℕ → Bool
+jobless m c = eqb (coreAt m c .count) 0
+
+abbrev pub inProgress : Machine → ℕ → Bool
+inProgress m c = coreAt m c .active
+
+-- 4,294,967,295 tickets given
+abbrev pub ticketsSpent : Machine → Bool
+ticketsSpent m = leb 4294967295 (m .tickets)
+
+-- ---- setup: no jobs, no transactions, all versions and both tables zero
+
+unfoldable pub setup : ℕ → ℕ → List ℕ → List ℕ → Result
+setup cores objects committed pending =
+    unlessLent
+    (first
+    ((not (ltb 0 cores && leb cores 16 && ltb 0 objects && leb objects 64), 1)
+    ∷ (misfit cores objects committed pending, 3) ∷ []))
+    (record { machine = blank; committed = committed; pending = pending })
+    (record {
+      answer = Ready;
+      world = record { machine = machineOf cores objects; committed = replicate objects 0; pending = replicate (cores * objects) 0 };
+    })
+
+-- ---- release: the job joins the end of the core's list
+
+abbrev pub withJob : Core → Job → Core
+withJob k j =
+    record {
+      jobs = set (k .jobs) (k .count) j;
+      count = k .count + 1;
+      active = k .active;
+      owner = k .owner;
+      ticket = k .ticket;
+      aborts = k .aborts;
+      zombie = k .zombie;
+      reads = k .reads;
+      writes = k .writes;
+    }
+
+unfoldable pub released : Machine → ℕ → Job → Outcome
+released m c j =
+    let k : Core = withJob (coreAt m c) j in
+    record { answer = cond (eqb (running k) (coreAt m c .count)) Running Queued; machine = putCore m c k }
+
+unfoldable pub release : Machine → ℕ → ℕ → ℕ → Outcome
+release m c number deadline =
+    unless (first ((unsound m, 2) ∷ (noSuchCore m c, 4) ∷ (fullList m c, 6) ∷ [])) m
+    (released m c (record { number = number; deadline = deadline }))
+
+-- ---- begin: the running job's transaction gets the next ticket; its sets are empty, its setbacks 0
+
+unfoldable pub begun : Machine → ℕ → Outcome
+begun m c =
+    let k : Core = coreAt m c in
+    record {
+      answer = Begun (m .tickets);
+      machine =
+          record {
+            cores = m .cores;
+            objects = m .objects;
+            tickets = m .tickets + 1;
+            commits = m .commits;
+            «give_ups» = m .«give_ups»;
+            core =
+                set (m .core) c
+                (record {
+                  jobs = k .jobs;
+                  count = k .count;
+                  active = true;
+                  owner = running k;
+                  ticket = m .tickets;
+                  aborts = 0;
+                  zombie = false;
+                  reads = 0;
+                  writes = 0;
+                });
+            versions = m .versions;
+          };
+    }
+
+unfoldable pub begin : Machine → ℕ → Outcome
+begin m c =
+    unless
+    (first
+    ((unsound m, 2) ∷ (noSuchCore m c, 4) ∷ (jobless m c, 7) ∷ (inProgress m c, 8) ∷ (ticketsSpent m, 10) ∷ [])) m
+    (begun m c)
+
+-- ---- a marked transaction's next read, write or commit answers set back and takes away the mark
+
+unfoldable pub told : World → ℕ → Result
+told w c =
+    let k : Core = coreAt (w .machine) c in
+    record {
+      answer = SetBack;
+      world =
+          withMachine w
+          (putCore (w .machine) c
+          (record {
+            jobs = k .jobs;
+            count = k .count;
+            active = k .active;
+            owner = k .owner;
+            ticket = k .ticket;
+            aborts = k .aborts;
+            zombie = false;
+            reads = k .reads;
+            writes = k .writes;
+          }));
+    }
+
+-- the refusals of read and write
+unfoldable pub accessRefusal : World → ℕ → ℕ → ℕ
+accessRefusal w c d =
+    first
+    ((unsound (w .machine), 2) ∷ (wrongTables w, 3) ∷ (noSuchCore (w .machine) c, 4) ∷ (noSuchObject (w .machine) d, 5)
+    ∷ (not (inProgress (w .machine) c), 9) ∷ [])
+
+abbrev pub withSets : Core → ℕ → ℕ → Core
+withSets k rs ws =
+    record {
+      jobs = k .jobs;
+      count = k .count;
+      active = k .active;
+      owner = k .owner;
+      ticket = k .ticket;
+      aborts = k .aborts;
+      zombie = k .zombie;
+      reads = rs;
+      writes = ws;
+    }
+
+-- the word of the pending table for core c and card d
+abbrev pub slot : Machine → ℕ → ℕ → ℕ
+slot m c d = c * m .objects + d
+
+-- ---- read: the pending value if this attempt wrote it, else the committed value; the card joins the read set
+
+unfoldable pub valueRead : World → ℕ → ℕ → ℕ
+valueRead w c d =
+    cond (has (coreAt (w .machine) c .writes) d) (getD (w .pending) (slot (w .machine) c d) 0) (getD (w .committed) d 0)
+
+unfoldable pub valued : World → ℕ → ℕ → Result
+valued w c d =
+    let k : Core = coreAt (w .machine) c in
+    record {
+      answer = Value (valueRead w c d) (getD (w .machine .versions) d 0);
+      world = withMachine w (putCore (w .machine) c (withSets k (added (k .reads) d) (k .writes)));
+    }
+
+unfoldable pub read : World → ℕ → ℕ → Result
+read w c d = unlessLent (accessRefusal w c d) w (cond (coreAt (w .machine) c .zombie) (told w c) (valued w c d))
+
+-- ---- write: stores the pending word; the card joins the write set
+
+unfoldable pub written : World → ℕ → ℕ → ℕ → Result
+written w c d v =
+    let k : Core = coreAt (w .machine) c in
+    record {
+      answer = Written;
+      world =
+          record {
+            machine = putCore (w .machine) c (withSets k (k .reads) (added (k .writes) d));
+            committed = w .committed;
+            pending = set (w .pending) (slot (w .machine) c d) v;
+          };
+    }
+
+unfoldable pub write : World → ℕ → ℕ → ℕ → Result
+write w c d v = unlessLent (accessRefusal w c d) w (cond (coreAt (w .machine) c .zombie) (told w c) (written w c d v))
+
+-- ---- commit
+
+-- two transactions conflict if the write set of either meets the data set of the other
+abbrev pub conflict : Core → Core → Bool
+conflict a b = meeting (a .writes) (dataSet b) || meeting (b .writes) (dataSet a)
+
+-- core e holds a conflicting transaction with a smaller ticket than core c's
+unfoldable pub contender : Machine → ℕ → ℕ → Bool
+contender m c e = coreAt m e .active && ltb (coreAt m e .ticket) (coreAt m c .ticket) && conflict (coreAt m c) (coreAt m e)
+
+unfoldable pub blocked : Machine → ℕ → Bool
+blocked m c = some 16 (contender m c)
+
+-- set back: the sets are emptied, the setbacks rise by one, it is marked; it keeps its ticket
+abbrev pub aborted : Core → Core
+aborted k =
+    record {
+      jobs = k .jobs;
+      count = k .count;
+      active = k .active;
+      owner = k .owner;
+      ticket = k .ticket;
+      aborts = k .aborts + 1;
+      zombie = true;
+      reads = 0;
+      writes = 0;
+    }
+
+-- a transaction whose data set meets the write set ws is set back
+unfoldable pub struck : ℕ → Core → Core
+struck ws k = cond (k .active && meeting ws (dataSet k)) (aborted k) k
+
+-- the transaction of a core ends; its jobs stay
+abbrev pub over : Core → Core
+over k = idle (k .jobs) (k .count)
+
+-- every core but c by `struck`, core c by `over`; the list starts with core i
+unfoldable pub cleared : ℕ → ℕ → ℕ → List Core → List Core
+cleared ws c i [] = []
+cleared ws c i (k ∷ ks) = cond (eqb i c) (over k) (struck ws k) ∷ cleared ws c (suc i) ks
+
+-- a list with its entries at the objects of the set ws changed by f; the list starts with object i
+unfoldable pub changed : ℕ → (ℕ → ℕ → ℕ) → ℕ → List ℕ → List ℕ
+changed ws f i [] = []
+changed ws f i (x ∷ xs) = cond (has ws i) (f i x) x ∷ changed ws f (suc i) xs
+
+-- the transaction ends, the write set's pending values become committed, each written card's version rises by one
+unfoldable pub through : World → ℕ → Result
+through w c =
+    let m : Machine = w .machine in
+    let ws : ℕ = coreAt m c .writes in
+    record {
+      answer = Committed (coreAt m c .aborts);
+      world =
+          record {
+            machine =
+                record {
+                  cores = m .cores;
+                  objects = m .objects;
+                  tickets = m .tickets;
+                  commits = m .commits + 1;
+                  «give_ups» = m .«give_ups»;
+                  core = cleared ws c 0 (m .core);
+                  versions = changed ws (λ d v. v + 1) 0 (m .versions);
+                };
+            committed = changed ws (λ d v. getD (w .pending) (slot m c d) 0) 0 (w .committed);
+            pending = w .pending;
+          };
+    }
+
+-- if a conflicting transaction has a smaller ticket, waits, with the core e of one such; nothing else changes
+abbrev pub waiting : World → ℕ → Result
+waiting w e = record { answer = Waits e; world = w }
+
+-- e is the core that waits names
+unfoldable pub commit : ℕ → World → ℕ → Result
+commit e w c =
+    unlessLent
+    (first
+    ((unsound (w .machine), 2) ∷ (wrongTables w, 3) ∷ (noSuchCore (w .machine) c, 4) ∷ (not (inProgress (w .machine) c), 9) ∷ [])) w
+    (cond (coreAt (w .machine) c .zombie) (told w c) (cond (blocked (w .machine) c) (waiting w e) (through w c)))
+
+-- ---- give up: the transaction ends without effect
+
+unfoldable pub ended : Machine → ℕ → Outcome
+ended m c =
+    record {
+      answer = Ended;
+      machine =
+          record {
+            cores = m .cores;
+            objects = m .objects;
+            tickets = m .tickets;
+            commits = m .commits;
+            «give_ups» = m .«give_ups» + 1;
+            core = set (m .core) c (over (coreAt m c));
+            versions = m .versions;
+          };
+    }
+
+unfoldable pub giveUp : Machine → ℕ → Outcome
+giveUp m c = unless (first ((unsound m, 2) ∷ (noSuchCore m c, 4) ∷ (not (inProgress m c), 9) ∷ [])) m (ended m c)
+
+-- ---- finish: the running job leaves the list, the others keep their order; its number is the answer
+
+-- the list without the job at place p, an unused place at its end
+abbrev pub without : List Job → ℕ → List Job
+without jobs p = take p jobs ++ drop (suc p) jobs ++ (noJob ∷ [])
+
+unfoldable pub finished : Machine → ℕ → Outcome
+finished m c =
+    let k : Core = coreAt m c in
+    record {
+      answer = Finished (jobAt k (running k) .number);
+      machine = putCore m c (idle (without (k .jobs) (running k)) (k .count - 1));
+    }
+
+unfoldable pub finish : Machine → ℕ → Outcome
+finish m c =
+    unless (first ((unsound m, 2) ∷ (noSuchCore m c, 4) ∷ (jobless m c, 7) ∷ (inProgress m c, 8) ∷ [])) m (finished m c)
+
+-- ---- one rule for the seven calls after setup
+
+pub data Call : Type 0 where
+  -- core, job number, deadline
+  Release : ℕ → ℕ → ℕ → Call
+  Begin : ℕ → Call
+  -- core, card
+  Read : ℕ → ℕ → Call
+  -- core, card, value
+  Write : ℕ → ℕ → ℕ → Call
+  Commit : ℕ → Call
+  GiveUp : ℕ → Call
+  Finish : ℕ → Call
+
+-- a call that is lent no table leaves both as they are
+abbrev pub unlent : World → Outcome → Result
+unlent w o = record { answer = o .answer; world = withMachine w (o .machine) }
+
+-- the answer and the next world; e is the core that waits names
+unfoldable pub rule : ℕ → World → Call → Result
+rule e w (Release c number deadline) = unlent w (release (w .machine) c number deadline)
+rule e w (Begin c) = unlent w (begin (w .machine) c)
+rule e w (Read c d) = read w c d
+rule e w (Write c d v) = write w c d v
+rule e w (Commit c) = commit e w c
+rule e w (GiveUp c) = unlent w (giveUp (w .machine) c)
+rule e w (Finish c) = unlent w (finish (w .machine) c)
+
+-- the core that a call is for
+abbrev pub coreOf : Call → ℕ
+coreOf (Release c number deadline) = c
+coreOf (Begin c) = c
+coreOf (Read c d) = c
+coreOf (Write c d v) = c
+coreOf (Commit c) = c
+coreOf (GiveUp c) = c
+coreOf (Finish c) = c
