@@ -1,0 +1,73 @@
+-- The claim about whole runs, demands 2 and 3, as one statement over every list of the seven calls after an accepted setup.
+-- Read it from top to bottom; its words are in Words.antt, Rounds.antt and Serial.antt, the rule in the crate machine.
+-- Assumes nothing.
+use mathlib.Core.Path.{_≡_}
+use mathlib.Core.Bool.{Bool, true}
+use mathlib.Core.List.{List, [], _∷_, _++_}
+use Prim.Native.Nat.{ℕ, suc, _+_, _*_, _≤_, _<_}
+use Rattle.machine.specs.declared.Answer.{Answer}
+use Rattle.machine.specs.declared.Answer.the-variants.{Value}
+use Rattle.machine.specs.Answers.{named}
+use Rattle.machine.specs.Record.{tally}
+use Rattle.machine.specs.Rule.{World, rule, Call, Read}
+use Rattle.machine.specs.Case.{Follows}
+use Rattle.history.specs.Words.{Event, Deed, begins, waits, commits, deeds, inProgress, births, born, ahead, attempt, strikes, conflict, struck, setBacks}
+use Rattle.history.specs.Rounds.{Rounds, Fate, fate, committed, given-up, AtMost}
+use Rattle.history.specs.Serial.{replays, serial, stood, settled, version}
+
+-- A run from the world w₀: each call gets the record that the last one returned and is lent the tables as the calls before left
+-- them, and keeps its promise, which is all that is known of it. Newest first.
+pub data Run (w₀ : World) : List Event → World → Type 0 where
+  fresh : Run w₀ [] w₀
+  then : {es : List Event} {w w′ : World} (call : Call) (a : Answer) → Run w₀ es w → Follows w call a w′
+      → Run w₀ (record { call = call; answer = a } ∷ es) w′
+
+-- the world that the rules give when worked from w₀ over the calls alone
+unfoldable pub worked : World → List Event → World
+worked w₀ [] = w₀
+worked w₀ (e ∷ es) = rule 0 (worked w₀ es) (e .call) .world
+
+-- Demand 3, the rule: whenever a call of the list has been made, its answer is the rule's, up to the core named by waits, and so
+-- are the record and every word of both tables.
+pub record ByTheRule (w₀ : World) (es : List Event) (w : World) : Type 0 where
+  pub world-worked : w ≡ worked w₀ es
+  pub answers-worked : (late early : List Event) (e : Event) → es ≡ late ++ e ∷ early
+      → e .answer ≡ rule (named (e .answer)) (worked w₀ early) (e .call) .answer
+
+-- Demand 3, of every transaction T begun in the list. A moment is a list of the deeds so far, early; late is what came after it.
+pub record Served (h : List Deed) : Type 0 where
+  -- set back at most k times, k being the earlier ones in progress at its begin
+  pub at-most-k : (late early : List Deed) (c : ℕ) → h ≡ late ++ early → inProgress early c ≡ true → struck early c ≤ ahead early c
+  -- never by a later one
+  pub never-by-later : (late early : List Deed) (b n c : ℕ) → h ≡ late ++ commits b n ∷ early → strikes (commits b n) early c ≡ true
+      → born early b < born early c
+  -- told to wait only behind an earlier one in conflict
+  pub waits-behind : (late early : List Deed) (c e : ℕ) → h ≡ late ++ waits c e ∷ early
+      → (inProgress early e ≡ true) × (born early e < born early c) × (conflict early c e ≡ true)
+  -- its reported setbacks are the commits that struck it, and as many of its calls were answered set back
+  pub reported : (late early : List Deed) (c n : ℕ) → h ≡ late ++ commits c n ∷ early → (n ≡ struck early c) × (n ≡ setBacks early c)
+  -- if not given up and with at most l reads and writes in any attempt of T and those k, committed within (k + 1) × (l + 2) rounds
+  pub within-rounds : (late since early : List Deed) (c l : ℕ) → h ≡ late ++ since ++ begins c ∷ early
+      → AtMost l (births early) (begins c ∷ early) since
+      → Rounds (births early) (begins c ∷ early) ((tally 16 (inProgress early) + 1) * (l + 2)) (since ++ begins c ∷ early)
+      → (fate since c ≡ given-up → ⊥) → fate since c ≡ committed
+
+-- Demand 2. The committed transactions' last attempts, run one after another in commit order on a table of their own.
+pub record Serial (objects : ℕ) (h : List Deed) : Type 0 where
+  -- each read what it would have read
+  pub same-reads : (late early : List Deed) (c n : ℕ) → h ≡ late ++ commits c n ∷ early → replays (attempt early c) (serial objects early) ≡ true
+  -- the committed values handed to any one attempt stood together after setup or after one commit
+  pub together : (late early : List Deed) (c : ℕ) → h ≡ late ++ early
+      → (between then-on : List Deed) × (early ≡ between ++ then-on) × (settled then-on ≡ true)
+      × (stood (attempt early c) (serial objects then-on) ≡ true)
+
+-- the whole claim
+pub record Claim (w₀ : World) (es : List Event) (w : World) : Type 0 where
+  pub by-the-rule : ByTheRule w₀ es w
+  pub served : Served (deeds es)
+  pub serially : Serial (w₀ .machine .objects) (deeds es)
+  -- and what they left in the cards is what the run left, after every call
+  pub same-cards : (late early : List Event) → es ≡ late ++ early → worked w₀ early .committed ≡ serial (w₀ .machine .objects) (deeds early)
+  -- the version that a read gives is the count of commits that wrote the card
+  pub same-versions : (late early : List Event) (c d v n : ℕ) → es ≡ late ++ record { call = Read c d; answer = Value v n } ∷ early
+      → n ≡ version (deeds early) d
