@@ -91,24 +91,19 @@ setup cores objects committed pending =
 
 -- ---- release: the job joins the end of the core's list
 
-abbrev pub withJob : Core → Job → Core
-withJob k j =
+-- a core with another list of jobs, and its transaction as it was
+abbrev pub withList : Core → List Job → ℕ → Core
+withList k jobs n =
     record {
-      jobs = set (k .jobs) (k .count) j;
-      count = k .count + 1;
-      active = k .active;
-      owner = k .owner;
-      ticket = k .ticket;
-      aborts = k .aborts;
-      zombie = k .zombie;
-      reads = k .reads;
-      writes = k .writes;
+      jobs = jobs; count = n; active = k .active; owner = k .owner; ticket = k .ticket; aborts = k .aborts; zombie = k .zombie;
+      reads = k .reads; writes = k .writes
     }
 
 unfoldable pub released : Machine → ℕ → Job → Outcome
 released m c j =
-    let k : Core = withJob (coreAt m c) j in
-    record { answer = cond (eqb (running k) (coreAt m c .count)) Running Queued; machine = putCore m c k }
+    let k : Core = coreAt m c in
+    let k′ : Core = withList k (set (k .jobs) (k .count) j) (k .count + 1) in
+    record { answer = cond (eqb (running k′) (k .count)) Running Queued; machine = putCore m c k′ }
 
 unfoldable pub release : Machine → ℕ → ℕ → ℕ → Outcome
 release m c number deadline =
@@ -350,7 +345,7 @@ finished m c =
     let k : Core = coreAt m c in
     record {
       answer = Finished (jobAt k (running k) .number);
-      machine = putCore m c (idle (without (k .jobs) (running k)) (k .count - 1));
+      machine = putCore m c (withList k (without (k .jobs) (running k)) (k .count - 1));
     }
 
 unfoldable pub finish : Machine → ℕ → Outcome
