@@ -1,1 +1,4 @@
 pub mod Orderly
+pub mod Moments
+pub mod Attempts
+pub mod Serially
