@@ -65,9 +65,9 @@ pub replays-alike : {o : ℕ} {a : List Deed} → Steps o a → (t u : List ℕ)
 unfolding replays touched any
 replays-alike no-step t u l same = refl
 replays-alike (read {a = a} c d v b s) t u l same =
-    ap₂ (λ (x : ℕ) (q : Bool). eqb v x && q) (effect-alike s t u d l (same d (ap (λ (q : Bool). q || touched a d) (eq-eqb d d refl))))
-    (replays-alike s t u l (λ e w. same e (ap (λ (q : Bool). eqb d e || q) w ∙ or-true (eqb d e))))
-replays-alike (write {a = a} c d v b s) t u l same = replays-alike s t u l (λ e w. same e (ap (λ (q : Bool). eqb d e || q) w ∙ or-true (eqb d e)))
+    ap₂ (λ (x : ℕ) (q : Bool). eqb v x && q) (effect-alike s t u d l (same d (rw (eq-eqb d d refl))))
+    (replays-alike s t u l (λ e w. same e (rw (w, or-true))))
+replays-alike (write c d v b s) t u l same = replays-alike s t u l (λ e w. same e (rw (w, or-true)))
 
 -- an attempt that would read again what it read has been handed committed values that stand
 pub replays-stood : {o : ℕ} {a : List Deed} → Steps o a → (t : List ℕ) → replays a t ≡ true → stood a t ≡ true
@@ -99,11 +99,11 @@ touched-below {o} (write {a = a} c e v b s) d w = first-below o e d (touched a d
 pub replays-uncrossed : {o : ℕ} {a b : List Deed} → o ≤ 64 → Steps o a → Steps o b → (t : List ℕ) → crosses b a ≡ false
     → replays a (effect b t) ≡ replays a t
 unfolding crosses
-replays-uncrossed {a = a} {b = b} fits s r t apart =
+replays-uncrossed {o} {a} {b} fits s r t apart =
     replays-alike s (effect b t) t (effect-length r t) (λ d w. effect-unwritten r t d (unwritten d w (wrote b d) refl))
   where
     unwritten : (d : ℕ) → touched a d ≡ true → (q : Bool) → wrote b d ≡ q → q ≡ false
     unwritten d w true p =
-        let below : d < _ = touched-below s d w in
+        let below : d < o = touched-below s d w in
         sym (one-some 64 (λ e. wrote b e && touched a e) d (omega arith) (ap₂ _&&_ p w)) ∙ apart
     unwritten d w false p = refl

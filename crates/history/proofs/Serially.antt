@@ -1,7 +1,7 @@
 -- Demand 2, from what each deed finds: at every moment the present attempt of each core would read again what it read, run alone on
 -- the cards as the commits so far left them. So it does at its commit, and the committed values handed to it stand together since the
 -- newest commit. Assumes nothing.
-use mathlib.Core.Path.{_≡_, refl, sym, ap, ap₂, subst, _∙_}
+use mathlib.Core.Path.{_≡_, refl, sym, ap, ap₂, _∙_}
 use mathlib.Core.Bool.{Bool, true, false, cond, not, _&&_, _||_, true≢false}
 use mathlib.Core.List.{List, [], _∷_, _++_}
 use Prim.Native.Nat.{ℕ, _≤_, _<_}
@@ -9,9 +9,9 @@ use lib.Dec.{eqb}
 use lib.ListN.{getD}
 use borrow.Author.Tests.{eqb-true, eq-eqb}
 use Rattle.history.specs.Words.{Deed, begins, reads, writes, waits, commits, told, gives, other, inProgress, attempt, crosses}
-use Rattle.history.specs.Serial.{effect, replays, serial, stood, settled}
+use Rattle.history.specs.Serial.{effect, replays, serial, settled}
 use Rattle.history.specs.Claims.{Serial}
-use Rattle.history.proofs.Orderly.{Orderly, Reading}
+use Rattle.history.proofs.Orderly.{Orderly}
 use Rattle.history.proofs.Moments.{orderly-early}
 use Rattle.history.proofs.Attempts.{Steps, no-step, read, write, replays-stood, replays-uncrossed}
 
@@ -26,7 +26,7 @@ empty-current : (o : ℕ) (going : Bool) (t : List ℕ) → Current o going [] t
 unfolding replays
 empty-current o going t = record { steps = no-step; none-idle = λ e. refl; rereads = refl }
 
-module _ (o : ℕ) (going : Bool) (a : List Deed) (t : List ℕ) (now : Current o going a t) where
+module _ {o : ℕ} {going : Bool} {a : List Deed} {t : List ℕ} (now : Current o going a t) where
   begin-current : (q : Bool) → Current o (cond q true going) (cond (q || false || false) [] a) t
   begin-current true = empty-current o true t
   begin-current false = now
@@ -53,13 +53,13 @@ module _ (o : ℕ) (going : Bool) (a : List Deed) (t : List ℕ) (now : Current 
   write-current c d v g l =
       record { steps = write c d v l (now .steps); none-idle = λ f. absurd (true≢false (sym g ∙ f)); rereads = now .rereads }
 
--- the attempt b of another core, or of this one where q says so, commits
+-- the attempt b commits: another core's, or this one's where q says so
 commit-current : (o : ℕ) (going : Bool) (a b : List Deed) (t : List ℕ) → o ≤ 64 → Current o going a t → Steps o b
     → (q crossed : Bool) → crosses b a ≡ crossed → Current o (cond q false going) (cond (q || (not q && going && crossed)) [] a) (effect b t)
 unfolding replays
 commit-current o going a b t fits now s true crossed e = empty-current o false (effect b t)
 commit-current o false a b t fits now s false crossed e =
-    record { steps = now .steps; none-idle = now .none-idle; rereads = rw (now .none-idle refl) refl }
+    record { steps = now .steps; none-idle = now .none-idle; rereads = rw (now .none-idle refl) }
 commit-current o true a b t fits now s false true e = empty-current o true (effect b t)
 commit-current o true a b t fits now s false false e =
     record { steps = now .steps; none-idle = now .none-idle; rereads = replays-uncrossed fits (now .steps) s t e ∙ now .rereads }
@@ -69,15 +69,20 @@ commit-current o true a b t fits now s false false e =
 current : (o : ℕ) (h : List Deed) (c : ℕ) → o ≤ 64 → Orderly o h → Current o (inProgress h c) (attempt h c) (serial o h)
 unfolding inProgress attempt serial
 current o [] c fits r = empty-current o false (serial o [])
-current o (begins b ∷ h) c fits (x, r) = begin-current o (inProgress h c) (attempt h c) (serial o h) (current o h c fits r) (eqb b c)
-current o (reads b d v ∷ h) c fits (x, r) = ?
-current o (writes b d v ∷ h) c fits (x, r) = ?
+current o (begins b ∷ h) c fits (x, r) = begin-current (current o h c fits r) (eqb b c)
+current o (reads b d v ∷ h) c fits (x, r) =
+    let now = current o h c fits r in
+    step-current now (reads b d v) (eqb b c)
+    (λ p. read-current now b d v (rw (← eqb-true b c p) (x .acting .going)) (x .is-object) (rw (← eqb-true b c p) (x .alone)))
+current o (writes b d v ∷ h) c fits (x, r) =
+    let now = current o h c fits r in
+    step-current now (writes b d v) (eqb b c) (λ p. write-current now b d v (rw (← eqb-true b c p) (x .0 .going)) (x .1))
 current o (waits b e ∷ h) c fits (x, r) = current o h c fits r
 current o (commits b n ∷ h) c fits (x, r) =
     commit-current o (inProgress h c) (attempt h c) (attempt h b) (serial o h) fits (current o h c fits r) (current o h b fits r .steps) (eqb b c)
     (crosses (attempt h b) (attempt h c)) refl
 current o (told b ∷ h) c fits (x, r) = current o h c fits r
-current o (gives b ∷ h) c fits (x, r) = give-up-current o (inProgress h c) (attempt h c) (serial o h) (current o h c fits r) (eqb b c)
+current o (gives b ∷ h) c fits (x, r) = give-up-current (current o h c fits r) (eqb b c)
 current o (other ∷ h) c fits (x, r) = current o h c fits r
 
 -- ---- the newest commit, or setup
@@ -101,14 +106,14 @@ newest-commit o (told b ∷ h) = no-commit o (told b) h (serial o h) (newest-com
 newest-commit o (gives b ∷ h) = no-commit o (gives b) h (serial o h) (newest-commit o h)
 newest-commit o (other ∷ h) = no-commit o other h (serial o h) (newest-commit o h)
 
+-- ---- the claim
+
 pub serially : (o : ℕ) (h : List Deed) → o ≤ 64 → Orderly o h → Serial o h
-serially o h fits r = record { same-reads = same-reads; together = together }
-  where
-    same-reads : (late early : List Deed) (c n : ℕ) → h ≡ late ++ commits c n ∷ early → replays (attempt early c) (serial o early) ≡ true
-    same-reads late early c n e = current o early c fits (orderly-early o h late (commits c n ∷ early) e r .1) .rereads
-    together : (late early : List Deed) (c : ℕ) → h ≡ late ++ early
-        → (between then-on : List Deed) × (early ≡ between ++ then-on) × (settled then-on ≡ true) × (stood (attempt early c) (serial o then-on) ≡ true)
-    together late early c e =
-        let (between, then-on, split, s, same) = newest-commit o early in
-        let now = current o early c fits (orderly-early o h late early e r) in
-        (between, then-on, split, s, rw same (replays-stood (now .steps) (serial o early) (now .rereads)))
+serially o h fits r =
+    record
+      { same-reads = λ late early c n e. current o early c fits (orderly-early o h late (commits c n ∷ early) e r .1) .rereads
+      ; together = λ late early c e.
+          let now = current o early c fits (orderly-early o h late early e r) in
+          let (between, then-on, split, s, same) = newest-commit o early in
+          (between, then-on, split, s, rw same (replays-stood (now .steps) (serial o early) (now .rereads)))
+      }
