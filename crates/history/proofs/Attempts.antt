@@ -39,6 +39,7 @@ effect-unwritten (write {a = a} c e v l s) t d w = go (eqb e d) refl w (effect-u
     go true p f more = absurd (true≢false f)
     go false p f more = getD-set-other (effect a t) e d v 0 (λ r. eqb-false e d p (sym r)) ∙ more f
 
+-- a store keeps two tables alike at card e
 set-alike : (t u : List ℕ) (d v e : ℕ) → length t ≡ length u → getD t e 0 ≡ getD u e 0 → getD (set t d v) e 0 ≡ getD (set u d v) e 0
 set-alike [] [] d v e l p = refl
 set-alike [] (y ∷ u) d v e l p = absurd (omega arith)
@@ -73,7 +74,8 @@ replays-alike (write c d v b s) t u l same = replays-alike s t u l (λ e w. same
 pub replays-stood : {o : ℕ} {a : List Deed} → Steps o a → (t : List ℕ) → replays a t ≡ true → stood a t ≡ true
 unfolding replays stood
 replays-stood no-step t r = refl
-replays-stood (read {a = a} c d v b s) t r = ap₂ _&&_ (go (wrote a d) refl) (replays-stood s t (both-right (eqb v (getD (effect a t) d 0)) (replays a t) r))
+replays-stood (read {a = a} c d v b s) t r =
+    ap₂ _&&_ (go (wrote a d) refl) (replays-stood s t (both-right (eqb v (getD (effect a t) d 0)) (replays a t) r))
   where
     go : (q : Bool) → wrote a d ≡ q → cond q true (eqb v (getD t d 0)) ≡ true
     go true w = refl
@@ -82,6 +84,7 @@ replays-stood (write c d v b s) t r = replays-stood s t r
 
 -- ---- what a run of another attempt changes
 
+-- card d is card e, which is below o, or one of the rest
 first-below : (o e d : ℕ) (rest : Bool) → e < o → (rest ≡ true → d < o) → (eqb e d || rest) ≡ true → d < o
 first-below o e d rest b more = go (eqb e d) refl
   where
