@@ -1,7 +1,10 @@
 pub mod Orderly
+pub mod Moments
 pub mod View
 pub mod Effects
 pub mod Places
 pub mod CoreAgrees
 pub mod Births
 pub mod Agreement
+pub mod Attempts
+pub mod Serially
