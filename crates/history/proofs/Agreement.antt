@@ -10,20 +10,24 @@ use lib.Dec.{eqb, ltb}
 use lib.ListN.{length, getD, set, length-set}
 use lib.Seq.{getD-set-same, getD-set-other, ext-getD}
 use borrow.Author.Tests.{eqb-true, eqb-false, eq-eqb, ne-eqb, ltb-true, ltb-false}
-use Rattle.objset.specs.Objset.{has}
 use Rattle.machine.specs.declared.Machine.{Machine}
 use Rattle.machine.specs.declared.Core.{Core}
+use Rattle.machine.specs.declared.Job.{Job}
 use Rattle.machine.specs.declared.Answer.{Answer}
+use Rattle.machine.specs.declared.Answer.the-variants.{Begun, Value, Written, Waits, Committed, SetBack, Ended, Refused}
+use Rattle.machine.specs.Answers.{kind, values}
 use Rattle.machine.specs.Record.{noCore, coreAt, putCore}
-use Rattle.machine.specs.Rule.{World, Call}
-use Rattle.machine.specs.Case.{Core-ok, Lent-ok, Case, is-refused, is-released, is-begun, is-told, is-valued, is-written, is-waiting, is-through, is-ended, is-finished}
-use Rattle.history.specs.Words.{Deed, begins, reads, writes, waits, commits, told, gives, other, amounts, inProgress, births, born, wrote, attempt, strikes, struck, setBacks}
+use Rattle.machine.specs.Rule as Rule
+use Rattle.machine.specs.Rule.{World, Call, Release, Begin, Read, Write, Commit, GiveUp, Finish, withMachine, withList, withSets}
+use Rattle.objset.specs.Objset.{has, added}
+use Rattle.machine.specs.Case.{Core-ok, Lent-ok, Asks, asks-read, asks-write, asks-commit, Case, is-refused, is-released, is-begun, is-told, is-valued, is-written, is-waiting, is-through, is-ended, is-finished}
+use Rattle.history.specs.Words.{Deed, begins, reads, writes, waits, commits, told, gives, other, amounts, inProgress, births, born, wrote, any, attempt, strikes, struck, setBacks}
 use Rattle.history.specs.Serial.{effect, serial, version}
 use Rattle.history.proofs.Orderly.{Acting, Reading, Waiting, Committing, Allowed, Orderly}
 use Rattle.history.proofs.View.{View, view, further, Over, concerns, view-other, view-begins, view-reads, view-writes, view-waits, view-told, view-gives, view-commits, view-struck}
 use Rattle.history.proofs.Effects.{lastWrite, effect-long, effect-unwritten, effect-written}
 use Rattle.history.proofs.Places.{slot-inside, slot-core, slot-object, cleared-at, cleared-long, changed-at, changed-long}
-use Rattle.history.proofs.CoreAgrees.{CoreAgrees, agrees-idle, agrees-read, agrees-write, agrees-struck, agrees-told, agrees-begun, meets-crosses, void-crosses}
+use Rattle.history.proofs.CoreAgrees.{CoreAgrees, agrees-idle, agrees-list, agrees-read, agrees-write, agrees-struck, agrees-told, agrees-begun, meets-crosses, void-crosses}
 
 pub record Agree (o : ℕ) (w : World) (h : List Deed) : Type 0 where
   pub cores-long : length (w .machine .core) ≡ 16
@@ -161,8 +165,175 @@ module _ {o : ℕ} {w : World} {h : List Deed} (a : Agree o w h) (x : Deed) (qui
           rw same (a .same-pending e d l (rw same at t))
 
 -- nothing happened that the words speak of
-agree-other : {o : ℕ} {w : World} {h : List Deed} → Agree o w h → Agree o w (other ∷ h)
+pub agree-other : {o : ℕ} {w : World} {h : List Deed} → Agree o w h → Agree o w (other ∷ h)
 agree-other {o} {w} {h} a =
     agree-quiet a other tt (w .machine .commits) (w .machine .«give_ups») (w .machine .core) (w .pending) (a .cores-long)
     (λ c. rw (quiet-view a other tt c refl) (a .each-core c))
     (λ c d l t. let same : attempt (other ∷ h) c ≡ attempt h c = ap (λ (v : View). v .tried) (quiet-view a other tt c refl) in rw same (a .same-pending c d l (rw same at t)))
+
+-- ---- each case of the rule
+
+-- a machine's core is one of the sixteen
+pub inside : {o : ℕ} {w : World} {h : List Deed} {c : ℕ} → Agree o w h → Core-ok (w .machine) c → c < 16
+inside a ok = omega (arith, a .cores-few, ok .is-core)
+
+-- a transaction in progress on core c that is not marked has been told of every strike
+pub acting : {o : ℕ} {w : World} {h : List Deed} {c : ℕ} → Agree o w h → Lent-ok w c → coreAt (w .machine) c .zombie ≡ false → Acting h c
+acting {o} {w} {h} {c} a ok z =
+    let k = a .each-core c in
+    let going : inProgress h c ≡ true = sym (k .same-going) ∙ ok .active in
+    record {
+      is-core = inside a (ok .core-ok);
+      going = going;
+      all-told = k .same-heard going ∙ ap (λ (b : Bool). cond b 1 0 + setBacks h c) z ∙ zero-add (setBacks h c)
+    }
+
+-- what a step of the run shows
+abbrev pub Step : ℕ → World → List Deed → Deed → Type 0
+Step o w h x = Allowed o x h × Agree o w (x ∷ h)
+
+pub refused-other : (call : Call) (n : ℕ) → amounts call (Refused n) ≡ other
+unfolding amounts kind
+refused-other (Release c number deadline) n = refl
+refused-other (Begin c) n = refl
+refused-other (Read c d) n = refl
+refused-other (Write c d v) n = refl
+refused-other (Commit c) n = refl
+refused-other (GiveUp c) n = refl
+refused-other (Finish c) n = refl
+
+pub told-amounts : (call : Call) (c : ℕ) → Asks call c → amounts call SetBack ≡ told c
+unfolding amounts kind
+told-amounts (Read b d) c asks-read = refl
+told-amounts (Write b d v) c asks-write = refl
+told-amounts (Commit b) c asks-commit = refl
+
+module _ {o : ℕ} {w : World} {h : List Deed} (a : Agree o w h) where
+  -- the list of jobs of core c changes
+  pub step-list : (c : ℕ) (jobs : List Job) (n : ℕ) → Core-ok (w .machine) c
+      → Agree o (withMachine w (putCore (w .machine) c (withList (coreAt (w .machine) c) jobs n))) (other ∷ h)
+  step-list c jobs n ok =
+      agree-core a other tt (w .machine .commits) (w .machine .«give_ups») c (withList (coreAt (w .machine) c) jobs n) (inside a ok)
+      (λ e q. refl) (rw same (agrees-list (coreAt (w .machine) c) (view h c) jobs n (a .each-core c)))
+      (λ d l t. rw (ap (λ (v : View). v .tried) same) (a .same-pending c d l (rw (ap (λ (v : View). v .tried) same) at t)))
+    where
+      same : view (other ∷ h) c ≡ view h c
+      same = quiet-view a other tt c refl
+
+  pub step-told : (c : ℕ) → Lent-ok w c → coreAt (w .machine) c .zombie ≡ true → Agree o (Rule.told w c .world) (told c ∷ h)
+  unfolding Rule.told
+  step-told c ok z =
+      agree-core a (told c) tt (w .machine .commits) (w .machine .«give_ups») c _ (inside a (ok .core-ok)) (λ e q. q)
+      (rw (view-told h c) (agrees-told (coreAt (w .machine) c) (view h c) z (a .each-core c)))
+      (λ d l t. rw same (a .same-pending c d l (rw same at t)))
+    where
+      same : attempt (told c ∷ h) c ≡ attempt h c
+      same = ap (λ (v : View). v .tried) (view-told h c)
+
+  pub step-read : (c d v : ℕ) → Lent-ok w c → d < w .machine .objects → coreAt (w .machine) c .zombie ≡ false
+      → Agree o (withMachine w (putCore (w .machine) c (withSets (coreAt (w .machine) c) (added (coreAt (w .machine) c .reads) d) (coreAt (w .machine) c .writes)))) (reads c d v ∷ h)
+  unfolding wrote any lastWrite
+  step-read c d v ok hd z =
+      agree-core a (reads c d v) tt (w .machine .commits) (w .machine .«give_ups») c _ (inside a (ok .core-ok)) (λ e q. q)
+      (rw (view-reads h c d v) (agrees-read (coreAt (w .machine) c) (view h c) c d v (omega (arith, a .same-objects, a .objects-few)) z (a .each-core c)))
+      (λ e l t. rw same (a .same-pending c e l (rw same at t)))
+    where
+      same : attempt (reads c d v ∷ h) c ≡ reads c d v ∷ attempt h c
+      same = ap (λ (u : View). u .tried) (view-reads h c d v)
+
+  -- a read gives what the attempt would read, run alone on the cards
+  pub read-alone : (c d : ℕ) → Lent-ok w c → d < w .machine .objects → Rule.valueRead w c d ≡ getD (effect (attempt h c) (serial o h)) d 0
+  unfolding Rule.valueRead
+  read-alone c d ok hd = go (has (coreAt (w .machine) c .writes) d) refl
+    where
+      hd′ : d < o
+      hd′ = omega (arith, a .same-objects)
+      long : length (serial o h) ≡ o
+      long = ap length (sym (a .same-committed)) ∙ ok .committed-long ∙ a .same-objects
+      go : (q : Bool) → has (coreAt (w .machine) c .writes) d ≡ q
+          → cond q (getD (w .pending) (c * w .machine .objects + d) 0) (getD (w .committed) d 0) ≡ getD (effect (attempt h c) (serial o h)) d 0
+      go true q =
+          let wr : wrote (attempt h c) d ≡ true = sym (a .each-core c .same-writes d) ∙ q in
+          ap (λ (n : ℕ). getD (w .pending) (c * n + d) 0) (a .same-objects) ∙ a .same-pending c d hd′ wr
+          ∙ sym (effect-written (attempt h c) (serial o h) d (rw long hd′) wr)
+      go false q =
+          ap (λ (t : List ℕ). getD t d 0) (a .same-committed)
+          ∙ sym (effect-unwritten (attempt h c) (serial o h) d (sym (a .each-core c .same-writes d) ∙ q))
+
+  pub step-write : (c d v : ℕ) → Lent-ok w c → d < w .machine .objects → coreAt (w .machine) c .zombie ≡ false
+      → Agree o (Rule.written w c d v .world) (writes c d v ∷ h)
+  unfolding Rule.written wrote any lastWrite
+  step-write c d v ok hd z =
+      agree-quiet a (writes c d v) tt (w .machine .commits) (w .machine .«give_ups») (set (w .machine .core) c _)
+      (set (w .pending) (c * w .machine .objects + d) v) (length-set (w .machine .core) c _ ∙ a .cores-long)
+      (one-core (w .machine .core) h (writes c d v) c _ (a .cores-long) (inside a (ok .core-ok)) (a .each-core)
+        (rw (view-writes h c d v) (agrees-write (coreAt (w .machine) c) (view h c) c d v (omega (arith, a .same-objects, a .objects-few)) z (a .each-core c)))
+        (λ e q. quiet-view a (writes c d v) tt e q))
+      (λ e f l t. words e f l (eqb c e) refl t)
+    where
+      hd′ : d < o
+      hd′ = omega (arith, a .same-objects)
+      p : List ℕ
+      p = set (w .pending) (c * w .machine .objects + d) v
+      -- the word stored to, with the number of cards as the words have it
+      there : (f : ℕ) → f < o → c * o + f < length (w .pending)
+      there f l = rw (ok .pending-long, a .same-objects) (slot-inside (w .machine .cores) o c f (ok .core-ok .is-core) l)
+      own : (f : ℕ) → f < o → (q : Bool) → eqb d f ≡ q → (q || wrote (attempt h c) f) ≡ true → getD p (c * o + f) 0 ≡ cond q v (lastWrite (attempt h c) f)
+      own f l true q t =
+          rw (a .same-objects, eqb-true d f q) (getD-set-same (w .pending) (c * o + f) v 0 (there f l))
+      own f l false q t =
+          rw (a .same-objects)
+          (getD-set-other (w .pending) (c * o + d) (c * o + f) v 0 (λ s. eqb-false d f q (slot-object o c c d f hd′ l (sym s))) ∙ a .same-pending c f l t)
+      words : (e f : ℕ) → f < o → (q : Bool) → eqb c e ≡ q → wrote (attempt (writes c d v ∷ h) e) f ≡ true
+          → getD p (e * o + f) 0 ≡ lastWrite (attempt (writes c d v ∷ h) e) f
+      words e f l true q t =
+          let same : attempt (writes c d v ∷ h) c ≡ writes c d v ∷ attempt h c = ap (λ (u : View). u .tried) (view-writes h c d v) in
+          subst (λ (i : ℕ). getD p (i * o + f) 0 ≡ lastWrite (attempt (writes c d v ∷ h) i) f) (eqb-true c e q)
+          (rw same (own f l (eqb d f) refl (rw same at (rw (← eqb-true c e q) at t))))
+      words e f l false q t =
+          let same : attempt (writes c d v ∷ h) e ≡ attempt h e = ap (λ (u : View). u .tried) (quiet-view a (writes c d v) tt e q) in
+          rw (same, a .same-objects)
+          (getD-set-other (w .pending) (c * o + d) (e * o + f) v 0 (λ s. eqb-false c e q (slot-core o c e d f hd′ l (sym s)))
+          ∙ a .same-pending e f l (rw same at t))
+
+  pub step-waits : (c e : ℕ) → Agree o w (waits c e ∷ h)
+  step-waits c e =
+      agree-quiet a (waits c e) tt (w .machine .commits) (w .machine .«give_ups») (w .machine .core) (w .pending) (a .cores-long)
+      (λ b. rw (view-waits h c e b) (a .each-core b))
+      (λ b d l t. rw (same b) (a .same-pending b d l (rw (same b) at t)))
+    where
+      same : (b : ℕ) → attempt (waits c e ∷ h) b ≡ attempt h b
+      same b = ap (λ (v : View). v .tried) (view-waits h c e b)
+
+  pub step-gives : (c : ℕ) → Core-ok (w .machine) c → Agree o (withMachine w (Rule.ended (w .machine) c .machine)) (gives c ∷ h)
+  unfolding Rule.ended wrote any
+  step-gives c ok =
+      agree-core a (gives c) tt (w .machine .commits) (w .machine .«give_ups» + 1) c (Rule.over (coreAt (w .machine) c)) (inside a ok) (λ e q. q)
+      (agrees-idle (Rule.over (coreAt (w .machine) c)) (view (gives c ∷ h) c) refl refl refl refl (view-gives h c))
+      (λ d l t. absurd (true≢false (sym (rw (view-gives h c .1) at t))))
+
+  pub step-begins : (c : ℕ) → Core-ok (w .machine) c → coreAt (w .machine) c .active ≡ false
+      → Agree o (withMachine w (Rule.begun (w .machine) c .machine)) (begins c ∷ h)
+  unfolding Rule.begun births serial version wrote any
+  step-begins c ok idle =
+      record {
+        cores-long = length-set (w .machine .core) c _ ∙ a .cores-long; cores-few = a .cores-few; objects-few = a .objects-few;
+        same-objects = a .same-objects; versions-long = a .versions-long;
+        same-tickets = omega (arith, a .same-tickets);
+        each-core =
+          one-core (w .machine .core) h (begins c) c _ (a .cores-long) (inside a ok) (a .each-core)
+          (rw (view-begins h c) (agrees-begun _ (births h) refl (a .same-tickets) refl refl refl refl))
+          (λ e q. view-other (begins c) h e q refl);
+        same-committed = a .same-committed;
+        same-pending = λ e d l t. words e d l (eqb c e) refl t;
+        same-versions = a .same-versions
+      }
+    where
+      words : (e d : ℕ) → d < o → (q : Bool) → eqb c e ≡ q → wrote (attempt (begins c ∷ h) e) d ≡ true
+          → getD (w .pending) (e * o + d) 0 ≡ lastWrite (attempt (begins c ∷ h) e) d
+      words e d l true q t =
+          let none : attempt (begins c ∷ h) c ≡ [] = ap (λ (v : View). v .tried) (view-begins h c) in
+          absurd (true≢false (sym (rw none at (rw (← eqb-true c e q) at t))))
+      words e d l false q t =
+          let same : attempt (begins c ∷ h) e ≡ attempt h e = ap (λ (v : View). v .tried) (view-other (begins c) h e q refl) in
+          rw same (a .same-pending e d l (rw same at t))

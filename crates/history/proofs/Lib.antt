@@ -5,6 +5,9 @@ pub mod Effects
 pub mod Places
 pub mod CoreAgrees
 pub mod Births
+pub mod Order
 pub mod Agreement
 pub mod Attempts
 pub mod Serially
+pub mod AgreementCommit
+pub mod Steps

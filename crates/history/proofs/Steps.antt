@@ -1,0 +1,130 @@
+-- Every call that follows the rule finds what Orderly.antt says and keeps the agreement; so does a whole run after an accepted
+-- setup. Assumes nothing.
+use mathlib.Core.Path.{_≡_, refl, sym, ap, ap₂, _∙_}
+use mathlib.Core.Bool.{Bool, true, false, cond, not, _&&_, _||_, true≢false}
+use mathlib.Core.List.{List, [], _∷_}
+use Prim.Native.Nat.{ℕ, zero, suc, _+_, _*_, _≤_, _<_}
+use native.Mathlib.Numerals.{one-add}
+use native.Mathlib.Omega.{arith}
+use lib.Dec.{eqb, ltb, leb}
+use lib.ListN.{length, getD, replicate, length-replicate, getD-replicate, List·getD-eq-default}
+use borrow.Author.Tests.{ltb-true, ltb-false, leb-true, eqb-false, not-false}
+use Rattle.machine.specs.declared.Core.{Core}
+use Rattle.machine.specs.declared.Answer.{Answer}
+use Rattle.machine.specs.declared.Answer.the-variants.{Ready, Begun, Value, Written, Waits, Committed, SetBack, Ended, Refused}
+use Rattle.machine.specs.Answers.{kind, values}
+use Rattle.machine.specs.Record.{noCore, coreAt, blankCore, blank, machineOf}
+use Rattle.machine.specs.Rule as Rule
+use Rattle.machine.specs.Rule.{World, Call}
+use Rattle.machine.specs.Case.{Case, is-refused, is-released, is-begun, is-told, is-valued, is-written, is-waiting, is-through, is-ended, is-finished, case-of}
+use Rattle.objset.specs.Laws.{both-left, both-right}
+use Rattle.history.specs.Words.{Event, Deed, begins, reads, writes, waits, commits, told, gives, other, amounts, deeds, inProgress, births, born, any, wrote, conflict, crosses, attempt, struck, setBacks}
+use Rattle.history.specs.Serial.{serial, version}
+use Rattle.history.specs.Claims.{Run, fresh, then}
+use Rattle.history.proofs.Orderly.{Allowed, Orderly}
+use Rattle.history.proofs.View.{view}
+use Rattle.history.proofs.CoreAgrees.{CoreAgrees, agrees-idle, meets-crosses}
+use Rattle.history.proofs.Agreement.{Agree, Step, inside, acting, refused-other, told-amounts, agree-other, step-list, step-told, step-read, read-alone, step-write, step-waits, step-gives, step-begins}
+use Rattle.history.proofs.AgreementCommit.{step-commits, finds-commits}
+
+-- the core that waits names has an earlier transaction in conflict
+finds-waits : {o : ℕ} {w : World} {h : List Deed} → Agree o w h → (c e : ℕ) → coreAt (w .machine) c .active ≡ true → Rule.contender (w .machine) c e ≡ true
+    → (inProgress h e ≡ true) × (born h e < born h c) × (conflict h c e ≡ true)
+unfolding Rule.contender conflict
+finds-waits {o} {w} {h} a c e going ahead =
+    let k = coreAt (w .machine) c in
+    let j = coreAt (w .machine) e in
+    let active : j .active ≡ true = both-left (j .active) (ltb (j .ticket) (k .ticket)) (both-left (j .active && ltb (j .ticket) (k .ticket)) _ ahead) in
+    let less : ltb (j .ticket) (k .ticket) ≡ true = both-right (j .active) (ltb (j .ticket) (k .ticket)) (both-left (j .active && ltb (j .ticket) (k .ticket)) _ ahead) in
+    let there : inProgress h e ≡ true = sym (a .each-core e .same-going) ∙ active in
+    let here : inProgress h c ≡ true = sym (a .each-core c .same-going) ∙ going in
+    (there,
+      omega (arith, ltb-true (j .ticket) (k .ticket) less, a .each-core e .same-order there, a .each-core c .same-order here),
+      sym (ap₂ _||_ (meets-crosses k j (view h c) (view h e) (a .each-core c) (a .each-core e)) (meets-crosses j k (view h e) (view h c) (a .each-core e) (a .each-core c)))
+      ∙ both-right (j .active && ltb (j .ticket) (k .ticket)) _ ahead)
+
+-- a marked one has one strike that it was not told of
+one-untold : {o : ℕ} {w : World} {h : List Deed} → Agree o w h → (c : ℕ) → inProgress h c ≡ true → coreAt (w .machine) c .zombie ≡ true
+    → struck h c ≡ suc (setBacks h c)
+one-untold {h = h} a c going z =
+    a .each-core c .same-heard going ∙ ap (λ (b : Bool). cond b 1 0 + setBacks h c) z ∙ one-add (setBacks h c)
+
+pub step : {o : ℕ} {w w′ : World} {h : List Deed} {call : Call} {x : Answer} → Agree o w h → Case w call x w′
+    → Allowed o (amounts call x) h × Agree o w′ (amounts call x ∷ h)
+unfolding amounts kind values Rule.released Rule.finished Rule.valued
+step a (is-refused {call = call} {n = n}) = rw (refused-other call (suc n)) (tt, agree-other a)
+step a (is-released {c = c} ok room) = (tt, step-list a c _ _ ok)
+step a (is-begun {c = c} ok job idle few) = ((inside a ok, sym (a .each-core c .same-going) ∙ idle), step-begins a c ok idle)
+step a (is-told {call = call} {c = c} asks ok z) =
+    let going = sym (a .each-core c .same-going) ∙ ok .active in
+    rw (told-amounts call c asks) ((inside a (ok .core-ok), going, one-untold a c going z), step-told a c ok z)
+step a (is-valued {c = c} {d = d} ok hd z) =
+    (record { acting = acting a ok z; is-object = omega (arith, a .same-objects); alone = read-alone a c d ok hd }, step-read a c d _ ok hd z)
+step a (is-written {c = c} {d = d} {v = v} ok hd z) = ((acting a ok z, omega (arith, a .same-objects)), step-write a c d v ok hd z)
+step a (is-waiting {c = c} {e = e} ok z ahead) =
+    let found = finds-waits a c e (ok .active) ahead in
+    (record { acting = acting a ok z; going = found .0; earlier = found .1; in-conflict = found .2 }, step-waits a c e)
+step a (is-through {c = c} ok z free) = (finds-commits a c ok z free, step-commits a c ok)
+step a (is-ended {c = c} ok going) = ((inside a ok, sym (a .each-core c .same-going) ∙ going), step-gives a c ok)
+step a (is-finished {c = c} ok job idle) = (tt, step-list a c _ _ ok)
+
+-- ---- after an accepted setup
+
+-- what an accepted setup found and gives
+pub record Fresh (cores objects : ℕ) (w₀ : World) : Type 0 where
+  pub cores-few : cores ≤ 16
+  pub objects-few : objects ≤ 64
+  pub world-is : w₀ ≡ record { machine = machineOf cores objects; committed = replicate objects 0; pending = replicate (cores * objects) 0 }
+
+not-refused : (n : ℕ) → Refused n ≡ Ready → ⊥
+unfolding kind
+not-refused n e = absurd (eqb-false 11 0 refl (ap kind e))
+
+pub setup-fresh : (cores objects : ℕ) (committed pending : List ℕ) → Rule.setup cores objects committed pending .answer ≡ Ready
+    → Fresh cores objects (Rule.setup cores objects committed pending .world)
+unfolding Rule.setup Rule.first Rule.unlessLent
+setup-fresh cores objects committed pending ready =
+    go (ltb 0 cores && leb cores 16 && ltb 0 objects && leb objects 64) refl (Rule.misfit cores objects committed pending) ready
+  where
+    given : World
+    given = record { machine = blank; committed = committed; pending = pending }
+    made : World
+    made = record { machine = machineOf cores objects; committed = replicate objects 0; pending = replicate (cores * objects) 0 }
+    result : Bool → Bool → Rule.Result
+    result r f = Rule.unlessLent (cond (not r) 1 (cond f 3 0)) given (record { answer = Ready; world = made })
+    go : (r : Bool) → (ltb 0 cores && leb cores 16 && ltb 0 objects && leb objects 64) ≡ r → (f : Bool) → result r f .answer ≡ Ready → Fresh cores objects (result r f .world)
+    go true r true e = absurd (not-refused 3 e)
+    go true r false e =
+        let three = both-left (ltb 0 cores && leb cores 16 && ltb 0 objects) (leb objects 64) r in
+        let two = both-left (ltb 0 cores && leb cores 16) (ltb 0 objects) three in
+        record {
+          cores-few = leb-true cores 16 (both-right (ltb 0 cores) (leb cores 16) two);
+          objects-few = leb-true objects 64 (both-right (ltb 0 cores && leb cores 16 && ltb 0 objects) (leb objects 64) r);
+          world-is = refl
+        }
+    go false r f e = absurd (not-refused 1 e)
+
+pub agree-fresh : (cores objects : ℕ) (w₀ : World) → Fresh cores objects w₀ → Agree objects w₀ []
+unfolding inProgress births attempt serial version wrote any
+agree-fresh cores objects w₀ f =
+    rw (f .world-is)
+    (record {
+      cores-long = refl; cores-few = f .cores-few; objects-few = f .objects-few; same-objects = refl; versions-long = refl;
+      same-tickets = refl; each-core = λ c. go c (ltb c 16) refl; same-committed = refl;
+      same-pending = λ c d l t. absurd (true≢false (sym t));
+      same-versions = λ d l. getD-replicate 64 d 0 0 (omega (arith, f .objects-few))
+    })
+  where
+    go : (c : ℕ) (q : Bool) → ltb c 16 ≡ q → CoreAgrees (coreAt (machineOf cores objects) c) (view [] c)
+    go c true q = rw (getD-replicate 16 c blankCore noCore (ltb-true c 16 q)) (agrees-idle blankCore (view [] c) refl refl refl refl (refl, refl))
+    go c false q =
+        rw (List·getD-eq-default (replicate 16 blankCore) noCore (ltb-false c 16 q)) (agrees-idle noCore (view [] c) refl refl refl refl (refl, refl))
+
+-- a run after an accepted setup agrees with the words all the way, and is orderly
+pub run-agrees : {o : ℕ} {w₀ w : World} {es : List Event} → Agree o w₀ [] → Run w₀ es w → Agree o w (deeds es) × Orderly o (deeds es)
+unfolding deeds
+run-agrees a fresh = (a, tt)
+run-agrees a (then call x run follows) =
+    let before = run-agrees a run in
+    let now = step (before .0) (case-of follows) in
+    (now .1, (now .0, before .1))
