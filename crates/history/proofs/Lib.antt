@@ -11,3 +11,4 @@ pub mod Attempts
 pub mod Serially
 pub mod AgreementCommit
 pub mod Steps
+pub mod WholeRun

@@ -1,0 +1,119 @@
+-- The claim about whole runs holds. Assumes nothing.
+use mathlib.Core.Path.{_≡_, refl, sym, ap, ap₂, subst, _∙_}
+use mathlib.Core.Bool.{Bool, true, false, cond, not, _&&_}
+use mathlib.Core.List.{List, [], _∷_, _++_}
+use Prim.Native.Nat.{ℕ, zero, suc, _*_, _<_}
+use native.Mathlib.Omega.{arith}
+use lib.ListN.{length, getD, replicate}
+use Rattle.machine.specs.declared.Answer.{Answer}
+use Rattle.machine.specs.declared.Answer.the-variants.{Ready, Value}
+use Rattle.machine.specs.Answers.{named, values}
+use Rattle.machine.specs.Record.{coreAt, machineOf}
+use Rattle.machine.specs.Rule as Rule
+use Rattle.machine.specs.Rule.{World, Call, Release, Begin, Read, Write, Commit, GiveUp, Finish, rule}
+use Rattle.machine.specs.Case.{Follows, Case, is-refused, is-released, is-begun, is-told, is-valued, is-written, is-waiting, is-through, is-ended, is-finished, case-of}
+use Rattle.history.specs.Words.{Event, Deed, deeds}
+use Rattle.history.specs.Serial.{serial, version}
+use Rattle.history.specs.Claims.{Run, fresh, then, worked, ByTheRule, Served, Serial, Claim}
+use Rattle.history.proofs.Orderly.{Orderly}
+use Rattle.history.proofs.Served.{served}
+use Rattle.history.proofs.Serially.{serially}
+use Rattle.history.proofs.Agreement.{Agree}
+use Rattle.history.proofs.Steps.{Fresh, setup-fresh, agree-fresh, run-agrees}
+
+-- ---- a beginning of a run is a run
+
+-- the newest call of a run
+last-call : {w₀ w : World} {es : List Event} → Run w₀ es w → (e : Event) (early : List Event) → es ≡ e ∷ early
+    → (v : World) × Run w₀ early v × Follows v (e .call) (e .answer) w
+last-call fresh e early p = let z : _≡_ {A = ℕ} 0 1 = cc in absurd (omega arith)
+last-call {w₀} {w} (then {es = es} {w = v} call a run f) e early p =
+    let tail : es ≡ early = cc in
+    let head : record { call = call; answer = a } ≡ e = cc in
+    (v, rw tail at run, subst (λ (x : Event). Follows v (x .call) (x .answer) w) head f)
+
+run-early : {w₀ w : World} {es : List Event} (late early : List Event) → Run w₀ es w → es ≡ late ++ early → (v : World) × Run w₀ early v
+run-early {w = w} [] early run p = (w, rw p at run)
+run-early (x ∷ late) early run p = let l = last-call run x (late ++ early) p in run-early late early (l .1) refl
+
+-- ---- worked over the calls alone
+
+-- the next world does not depend on the core that waits names
+waiting-alike : (r : ℕ) (z b : Bool) (e : ℕ) (w : World) (told through : Rule.Result)
+    → Rule.unlessLent r w (cond z told (cond b (Rule.waiting w e) through)) .world ≡ Rule.unlessLent r w (cond z told (cond b (Rule.waiting w 0) through)) .world
+unfolding Rule.unlessLent
+waiting-alike zero true b e w told through = refl
+waiting-alike zero false true e w told through = refl
+waiting-alike zero false false e w told through = refl
+waiting-alike (suc n) z b e w told through = refl
+
+any-named : (e : ℕ) (w : World) (call : Call) → rule e w call .world ≡ rule 0 w call .world
+unfolding rule Rule.commit
+any-named e w (Release c number deadline) = refl
+any-named e w (Begin c) = refl
+any-named e w (Read c d) = refl
+any-named e w (Write c d v) = refl
+any-named e w (Commit c) = waiting-alike _ (coreAt (w .machine) c .zombie) (Rule.blocked (w .machine) c) e w _ _
+any-named e w (GiveUp c) = refl
+any-named e w (Finish c) = refl
+
+run-worked : {w₀ w : World} {es : List Event} → Run w₀ es w → w ≡ worked w₀ es
+unfolding worked
+run-worked fresh = refl
+run-worked (then {w = v} call a run f) =
+    f .world-is ∙ any-named (named a) v call ∙ ap (λ (u : World). rule 0 u call .world) (run-worked run)
+
+by-the-rule : {w₀ w : World} {es : List Event} → Run w₀ es w → ByTheRule w₀ es w
+by-the-rule {w₀} run =
+    record {
+      world-worked = run-worked run;
+      answers-worked =
+        λ late early e p.
+          let r = run-early late (e ∷ early) run p in
+          let l = last-call (r .1) e early refl in
+          l .2 .answer-is ∙ ap (λ (u : World). rule (named (e .answer)) u (e .call) .answer) (run-worked (l .1))
+    }
+
+-- ---- the version that a read gives
+
+read-version : {o : ℕ} {w w′ : World} {h : List Deed} {call : Call} {a : Answer} → Agree o w h → Case w call a w′
+    → (c d v n : ℕ) → call ≡ Read c d → a ≡ Value v n → n ≡ version h d
+unfolding Rule.valued
+read-version g is-refused c d v n p q = let z : _≡_ {A = ℕ} 0 1 = cc in absurd (omega arith)
+read-version g (is-released ok room) c d v n p q = let z : _≡_ {A = ℕ} 0 1 = cc in absurd (omega arith)
+read-version g (is-begun ok job idle few) c d v n p q = let z : _≡_ {A = ℕ} 0 1 = cc in absurd (omega arith)
+read-version g (is-told asks ok z) c d v n p q = let z : _≡_ {A = ℕ} 0 1 = cc in absurd (omega arith)
+read-version {w = w} {h = h} g (is-valued {d = e} ok he z) c d v n p q =
+    let same : e ≡ d = cc in
+    let there : getD (w .machine .versions) e 0 ≡ n = cc in
+    sym there ∙ g .same-versions e (omega (arith, g .same-objects)) ∙ ap (version h) same
+read-version g (is-written ok he z) c d v n p q = let z : _≡_ {A = ℕ} 0 1 = cc in absurd (omega arith)
+read-version g (is-waiting ok z ahead) c d v n p q = let z : _≡_ {A = ℕ} 0 1 = cc in absurd (omega arith)
+read-version g (is-through ok z free) c d v n p q = let z : _≡_ {A = ℕ} 0 1 = cc in absurd (omega arith)
+read-version g (is-ended ok going) c d v n p q = let z : _≡_ {A = ℕ} 0 1 = cc in absurd (omega arith)
+read-version g (is-finished ok job idle) c d v n p q = let z : _≡_ {A = ℕ} 0 1 = cc in absurd (omega arith)
+
+-- ---- the whole claim
+
+pub whole-run : (cores objects : ℕ) (committed pending : List ℕ) → Rule.setup cores objects committed pending .answer ≡ Ready
+    → {es : List Event} {w : World} → Run (Rule.setup cores objects committed pending .world) es w
+    → Claim (Rule.setup cores objects committed pending .world) es w
+whole-run cores objects committed pending ready {es} {w} run =
+    let new = setup-fresh cores objects committed pending ready in
+    let a = agree-fresh cores objects _ new in
+    let o = run-agrees a run .1 in
+    let same = a .same-objects in
+    record {
+      by-the-rule = by-the-rule run;
+      served = served objects (deeds es) o;
+      serially = rw same (serially objects (deeds es) (new .objects-few) o);
+      same-cards =
+        λ late early p.
+          let r = run-early late early run p in
+          ap (λ (u : World). u .committed) (sym (run-worked (r .1))) ∙ rw same (run-agrees a (r .1) .0 .same-committed);
+      same-versions =
+        λ late early c d v n p.
+          let r = run-early late (record { call = Read c d; answer = Value v n } ∷ early) run p in
+          let l = last-call (r .1) (record { call = Read c d; answer = Value v n }) early refl in
+          read-version (run-agrees a (l .1) .0) (case-of (l .2)) c d v n refl refl
+    }
