@@ -1,0 +1,128 @@
+-- What a deed changes of a transaction in progress: it goes on with its number, unless the deed is its begin or its end.
+-- Assumes nothing.
+use mathlib.Core.Path.{_≡_, refl, sym, ap, _∙_}
+use mathlib.Core.Bool.{Bool, true, false, cond, true≢false}
+use mathlib.Core.List.{List, [], _∷_, _++_}
+use Prim.Native.Nat.{ℕ, zero, suc, _+_, _≤_, _<_}
+use native.Mathlib.Omega.{arith}
+use lib.Dec.{eqb}
+use borrow.Author.Tests.{eqb-true}
+use Rattle.history.specs.Words.{Deed, begins, reads, writes, waits, commits, told, gives, other, beginsOn, endsOn, isBegin, inProgress, births, born}
+use Rattle.history.proofs.Orderly.{Orderly, Allowed}
+
+-- ---- the lists before
+
+-- a beginning of an orderly list is orderly
+pub orderly-early : (o : ℕ) (h late early : List Deed) → h ≡ late ++ early → Orderly o h → Orderly o early
+orderly-early o h [] early e p = rw e at p
+orderly-early o h (x ∷ late) early e p = orderly-early o (late ++ early) late early refl ((rw e at p) .1)
+
+-- ---- a begin
+
+-- a begin finds none in progress on its core
+pub begun-allowed : (o : ℕ) (x : Deed) (h : List Deed) (c : ℕ) → beginsOn x c ≡ true → Allowed o x h → (c < 16) × (inProgress h c ≡ false)
+begun-allowed o (begins b) h c e p = rw (eqb-true b c e) at p
+begun-allowed o (reads b d v) h c e p = absurd (true≢false (sym e))
+begun-allowed o (writes b d v) h c e p = absurd (true≢false (sym e))
+begun-allowed o (waits b d) h c e p = absurd (true≢false (sym e))
+begun-allowed o (commits b n) h c e p = absurd (true≢false (sym e))
+begun-allowed o (told b) h c e p = absurd (true≢false (sym e))
+begun-allowed o (gives b) h c e p = absurd (true≢false (sym e))
+begun-allowed o other h c e p = absurd (true≢false (sym e))
+
+begins-is-begin : (x : Deed) (c : ℕ) → beginsOn x c ≡ true → isBegin x ≡ true
+begins-is-begin (begins b) c e = refl
+begins-is-begin (reads b d v) c e = e
+begins-is-begin (writes b d v) c e = e
+begins-is-begin (waits b d) c e = e
+begins-is-begin (commits b n) c e = e
+begins-is-begin (told b) c e = e
+begins-is-begin (gives b) c e = e
+begins-is-begin other c e = e
+
+pub births-begun : (x : Deed) (h : List Deed) (c : ℕ) → beginsOn x c ≡ true → births (x ∷ h) ≡ suc (births h)
+unfolding births
+births-begun x h c e = rw (begins-is-begin x c e) (omega arith)
+
+pub births-grow : (x : Deed) (h : List Deed) → births h ≤ births (x ∷ h)
+unfolding births
+births-grow x h = omega arith
+
+pub births-late : (late early : List Deed) → births early ≤ births (late ++ early)
+births-late [] early = omega arith
+births-late (x ∷ late) early = omega (arith, births-grow x (late ++ early), births-late late early)
+
+pub born-begun : (x : Deed) (h : List Deed) (c : ℕ) → beginsOn x c ≡ true → born (x ∷ h) c ≡ births h
+unfolding born
+born-begun x h c e = rw e
+
+pub born-kept : (x : Deed) (h : List Deed) (c : ℕ) → beginsOn x c ≡ false → born (x ∷ h) c ≡ born h c
+unfolding born
+born-kept x h c e = rw e
+
+-- ---- in progress after a deed
+
+-- how a transaction comes to be in progress on core c after the deed x
+pub data Going (x : Deed) (h : List Deed) (c : ℕ) : Type 0 where
+  begun : beginsOn x c ≡ true → Going x h c
+  kept : beginsOn x c ≡ false → endsOn x c ≡ false → inProgress h c ≡ true → Going x h c
+
+pub going : (x : Deed) (h : List Deed) (c : ℕ) → inProgress (x ∷ h) c ≡ true → Going x h c
+unfolding inProgress
+going x h c p = go (beginsOn x c) (endsOn x c) refl refl p
+  where
+    go : (b e : Bool) → beginsOn x c ≡ b → endsOn x c ≡ e → cond b true (cond e false (inProgress h c)) ≡ true → Going x h c
+    go true e q r s = begun q
+    go false true q r s = absurd (true≢false (sym s))
+    go false false q r s = kept q r s
+
+pub going-on : (x : Deed) (h : List Deed) (c : ℕ) → endsOn x c ≡ false → inProgress h c ≡ true → inProgress (x ∷ h) c ≡ true
+unfolding inProgress
+going-on x h c e p = go (beginsOn x c)
+  where
+    go : (b : Bool) → cond b true (cond (endsOn x c) false (inProgress h c)) ≡ true
+    go true = refl
+    go false = rw e p
+
+ends-no-begin : (x : Deed) (c : ℕ) → endsOn x c ≡ true → beginsOn x c ≡ false
+ends-no-begin (begins b) c e = absurd (true≢false (sym e))
+ends-no-begin (reads b d v) c e = refl
+ends-no-begin (writes b d v) c e = refl
+ends-no-begin (waits b d) c e = refl
+ends-no-begin (commits b n) c e = refl
+ends-no-begin (told b) c e = refl
+ends-no-begin (gives b) c e = refl
+ends-no-begin other c e = refl
+
+pub ended : (x : Deed) (h : List Deed) (c : ℕ) → endsOn x c ≡ true → inProgress (x ∷ h) c ≡ false
+unfolding inProgress
+ended x h c e = rw (ends-no-begin x c e, e)
+
+-- one in progress was begun, so its number is below the count of begins
+pub born-below : (h : List Deed) (c : ℕ) → inProgress h c ≡ true → born h c < births h
+unfolding inProgress
+born-below [] c p = absurd (true≢false (sym p))
+born-below (x ∷ h) c p = go (going x h c p) (born-below h c)
+  where
+    go : Going x h c → (inProgress h c ≡ true → born h c < births h) → born (x ∷ h) c < births (x ∷ h)
+    go (begun e) rest = omega (arith, born-begun x h c e, births-begun x h c e)
+    go (kept e f q) rest = omega (arith, born-kept x h c e, rest q, births-grow x h)
+
+-- only the sixteen cores have one in progress
+pub core-below : (o : ℕ) (h : List Deed) (c : ℕ) → Orderly o h → inProgress h c ≡ true → c < 16
+unfolding inProgress
+core-below o [] c a p = absurd (true≢false (sym p))
+core-below o (x ∷ h) c a p = go (going x h c p) (core-below o h c (a .1))
+  where
+    go : Going x h c → (inProgress h c ≡ true → c < 16) → c < 16
+    go (begun e) rest = begun-allowed o x h c e (a .0) .0
+    go (kept e f q) rest = rest q
+
+-- what is in progress after a deed with a number that was given out before it was in progress before, with that number
+pub older-kept : (x : Deed) (h : List Deed) (b : ℕ) → inProgress (x ∷ h) b ≡ true → born (x ∷ h) b < births h
+    → (inProgress h b ≡ true) × (born (x ∷ h) b ≡ born h b)
+older-kept x h b p l = go (going x h b p)
+  where
+    go : Going x h b → (inProgress h b ≡ true) × (born (x ∷ h) b ≡ born h b)
+    go (begun e) = absurd (omega (arith, born-begun x h b e))
+    go (kept e f q) = (q, born-kept x h b e)
