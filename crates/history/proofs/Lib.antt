@@ -1,3 +1,4 @@
 pub mod Orderly
 pub mod Tally
 pub mod Births
+pub mod Strikes
