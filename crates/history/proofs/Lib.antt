@@ -2,3 +2,4 @@ pub mod Orderly
 pub mod Tally
 pub mod Births
 pub mod Strikes
+pub mod Eldest
