@@ -3,3 +3,4 @@ pub mod Tally
 pub mod Births
 pub mod Strikes
 pub mod Eldest
+pub mod RoundsBound
