@@ -4,3 +4,5 @@ pub mod Births
 pub mod Strikes
 pub mod Eldest
 pub mod RoundsBound
+pub mod Fates
+pub mod Served

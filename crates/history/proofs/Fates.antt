@@ -1,0 +1,103 @@
+-- While the deeds since its begin neither commit it nor give it up, a transaction is in progress on its core with its number.
+-- Assumes nothing.
+use mathlib.Core.Path.{_≡_, refl, sym, ap, _∙_}
+use mathlib.Core.Bool.{Bool, true, false, cond, true≢false}
+use mathlib.Core.List.{List, [], _∷_, _++_, tail}
+use Prim.Native.Nat.{ℕ, zero, suc, _+_, _*_, _≤_, _<_}
+use native.Mathlib.Nat.{mul-comm, mul-le-mul-left}
+use native.Mathlib.Omega.{arith}
+use lib.Dec.{eqb}
+use lib.ListN.{length}
+use borrow.Author.Tests.{eqb-true, eq-eqb, ne-eqb}
+use Rattle.machine.specs.Record.{tally}
+use Rattle.history.specs.Words.{Deed, begins, reads, writes, waits, commits, told, gives, other, beginsOn, endsOn, inProgress, births, born, attempt}
+use Rattle.history.specs.Rounds.{Rounds, Fate, in-progress, committed, given-up, fate, fateAfter, among, AtMost}
+use Rattle.history.proofs.Orderly.{Orderly}
+use Rattle.history.proofs.Tally.{tally-but-one}
+use Rattle.history.proofs.Births.{Going, begun, kept, going, going-on, begun-allowed, births-begun, births-late, born-begun, born-kept}
+use Rattle.history.proofs.RoundsBound.{Moment, Steady, among-going, out-of-rounds}
+
+-- one that is in progress after a deed was so before, and the deed did not end it
+fate-kept : (x : Deed) (c : ℕ) (f : Fate) → fateAfter x c f ≡ in-progress → (f ≡ in-progress) × (endsOn x c ≡ false)
+fate-kept x c committed e = let z : _≡_ {A = ℕ} 0 1 = cc in absurd (omega arith)
+fate-kept x c given-up e = let z : _≡_ {A = ℕ} 0 1 = cc in absurd (omega arith)
+fate-kept (begins b) c in-progress e = (refl, refl)
+fate-kept (reads b d v) c in-progress e = (refl, refl)
+fate-kept (writes b d v) c in-progress e = (refl, refl)
+fate-kept (waits b d) c in-progress e = (refl, refl)
+fate-kept (commits b n) c in-progress e = (refl, go (eqb b c) e)
+  where
+    go : (q : Bool) → cond q committed in-progress ≡ in-progress → q ≡ false
+    go true p = let z : _≡_ {A = ℕ} 0 1 = cc in absurd (omega arith)
+    go false p = refl
+fate-kept (told b) c in-progress e = (refl, refl)
+fate-kept (gives b) c in-progress e = (refl, go (eqb b c) e)
+  where
+    go : (q : Bool) → cond q given-up in-progress ≡ in-progress → q ≡ false
+    go true p = let z : _≡_ {A = ℕ} 0 1 = cc in absurd (omega arith)
+    go false p = refl
+fate-kept other c in-progress e = (refl, refl)
+
+-- T begun on core c after the list early
+module _ (o c : ℕ) (early : List Deed) where
+  abbrev start : List Deed
+  start = begins c ∷ early
+
+  begins-here : beginsOn (begins c) c ≡ true
+  begins-here = eq-eqb c c refl
+
+  in-progress-since : (since : List Deed) → Orderly o (since ++ start) → fate since c ≡ in-progress
+      → (inProgress (since ++ start) c ≡ true) × (born (since ++ start) c ≡ births early)
+  unfolding inProgress fate
+  in-progress-since [] a e = (rw begins-here, born-begun (begins c) early c begins-here)
+  in-progress-since (x ∷ since) a e =
+      let (f, no-end) = fate-kept x c (fate since c) e in
+      let (p, q) = in-progress-since since (a .1) f in
+      (going-on x (since ++ start) c no-end p, born-kept x (since ++ start) c (go p (beginsOn x c) refl) ∙ q)
+    where
+      go : inProgress (since ++ start) c ≡ true → (b : Bool) → beginsOn x c ≡ b → b ≡ false
+      go p true r = absurd (true≢false (sym p ∙ begun-allowed o x (since ++ start) c r (a .0) .1))
+      go p false r = refl
+
+  module _ (l : ℕ) where
+    -- the newest moment
+    at-most-now : (since : List Deed) → AtMost l (births early) start since
+        → (b : ℕ) → among (births early) (since ++ start) b ≡ true → length (attempt (since ++ start) b) ≤ l
+    at-most-now [] m = m
+    at-most-now (x ∷ since) m = m .0
+
+    moment : (since : List Deed) → Orderly o (since ++ start) → AtMost l (births early) start since → fate since c ≡ in-progress
+        → Moment o (l + 2) (births early) c (since ++ start)
+    moment since a m f =
+        let (p, q) = in-progress-since since a f in
+        record { orderly = a; going = p; number = q; short = λ b e. omega (arith, at-most-now since m b e) }
+
+    -- every moment from the begin on
+    moments : (since : List Deed) → Orderly o (since ++ start) → AtMost l (births early) start since → fate since c ≡ in-progress
+        → Steady o (l + 2) (births early) c (since ++ start)
+    unfolding fate
+    moments since a m f [] now e n = rw e at (moment since a m f)
+    moments [] a m f (x ∷ late) now e n = absurd (omega (arith, births-late late now, ap (λ r. births (tail r)) e))
+    moments (y ∷ since) a m f (x ∷ late) now e n =
+        moments since (a .1) (m .1) (fate-kept y c (fate since c) f .0) late now (ap tail e) n
+
+    -- at the begin there are at most those in progress before, and T
+    start-fits : (l + 2) * tally 16 (among (births early) start) ≤ (tally 16 (inProgress early) + 1) * (l + 2)
+    start-fits =
+        let one-more = tally-but-one 16 (among (births early) start) (inProgress early) c others in
+        rw (mul-comm (tally 16 (inProgress early) + 1) (l + 2)) (mul-le-mul-left (l + 2) (omega arith))
+      where
+        others : (b : ℕ) → (b ≡ c → ⊥) → among (births early) start b ≡ true → inProgress early b ≡ true
+        others b differ e = go (going (begins c) early b (among-going (births early) start b e))
+          where
+            go : Going (begins c) early b → inProgress early b ≡ true
+            go (begun f) = absurd (differ (sym (eqb-true c b f)))
+            go (kept f g p) = p
+
+    -- after that many rounds it is no longer in progress
+    pub not-in-progress : (since : List Deed) → Orderly o (since ++ start) → AtMost l (births early) start since
+        → Rounds (births early) start ((tally 16 (inProgress early) + 1) * (l + 2)) (since ++ start) → fate since c ≡ in-progress → ⊥
+    not-in-progress since a m r f =
+        let steady = moments since a m f in
+        let first = steady since start refl (omega (arith, births-begun (begins c) early c begins-here)) in
+        out-of-rounds o (l + 2) (births early) c ((tally 16 (inProgress early) + 1) * (l + 2)) first start-fits r steady
