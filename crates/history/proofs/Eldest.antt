@@ -1,16 +1,16 @@
 -- The eldest transaction in progress: nobody strikes it, it is never told to wait, and each of its acts ends it or takes it one
 -- step on. Assumes nothing.
-use mathlib.Core.Path.{_≡_, refl, sym, ap, _∙_}
-use mathlib.Core.Bool.{Bool, true, false, cond, _||_, true≢false}
-use mathlib.Core.List.{List, [], _∷_}
+use mathlib.Core.Path.{_≡_, refl, _∙_}
+use mathlib.Core.Bool.{Bool, true, false, cond}
+use mathlib.Core.List.{List, _∷_}
 use Prim.Native.Nat.{ℕ, zero, suc, _+_, _≤_, _<_}
 use native.Mathlib.Omega.{arith}
 use lib.Dec.{eqb, ltb}
 use lib.ListN.{length}
 use borrow.Author.Tests.{ltb-true, ltb-false, eqb-true, eqb-false, eq-eqb, ne-eqb}
-use Rattle.history.specs.Words.{Deed, begins, reads, writes, waits, commits, told, gives, other, beginsOn, endsOn, stepsOn, toldOn, actsOn, inProgress, births, born, attempt, strikes, struck, setBacks}
-use Rattle.history.proofs.Orderly.{Orderly, Allowed, Acting}
-use Rattle.history.proofs.Births.{Going, begun, kept, going, going-on, begun-allowed, born-begun, born-kept, born-below, core-below}
+use Rattle.history.specs.Words.{Deed, begins, reads, writes, waits, commits, told, gives, other, beginsOn, endsOn, stepsOn, toldOn, actsOn, inProgress, born, attempt, strikes, struck, setBacks}
+use Rattle.history.proofs.Orderly.{Orderly, Allowed}
+use Rattle.history.proofs.Births.{clash, Going, begun, kept, going, going-on, begun-allowed, born-begun, born-kept, born-below, core-below}
 use Rattle.history.proofs.Strikes.{striker, struck-kept}
 
 -- ---- there is an eldest
@@ -34,7 +34,7 @@ find (suc n) f rank = go (find n f rank) (f n) refl
   where
     go : Found n f rank → (p : Bool) → f n ≡ p → Found (suc n) f rank
     go (nobody none) true p = found n p (upto n (λ b. f b ≡ true → rank n ≤ rank b) (λ q. omega arith) (λ b l q. absurd (none b l q)))
-    go (nobody none) false p = nobody (upto n (λ b. f b ≡ true → ⊥) (λ q. true≢false (sym q ∙ p)) none)
+    go (nobody none) false p = nobody (upto n (λ b. f b ≡ true → ⊥) (λ q. clash q p) none)
     go (found u q least) true p = closer (ltb (rank n) (rank u)) refl
       where
         closer : (c : Bool) → ltb (rank n) (rank u) ≡ c → Found (suc n) f rank
@@ -42,7 +42,7 @@ find (suc n) f rank = go (find n f rank) (f n) refl
             let less = ltb-true (rank n) (rank u) c in
             found n p (upto n (λ b. f b ≡ true → rank n ≤ rank b) (λ r. omega arith) (λ b l r. omega (arith, least b l r)))
         closer false c = found u q (upto n (λ b. f b ≡ true → rank u ≤ rank b) (λ r. ltb-false (rank n) (rank u) c) least)
-    go (found u q least) false p = found u q (upto n (λ b. f b ≡ true → rank u ≤ rank b) (λ r. absurd (true≢false (sym r ∙ p))) least)
+    go (found u q least) false p = found u q (upto n (λ b. f b ≡ true → rank u ≤ rank b) (λ r. clash r p) least)
 
 -- core u has the eldest transaction in progress
 pub record Eldest (h : List Deed) (u : ℕ) : Type 0 where
@@ -84,7 +84,7 @@ module _ (o : ℕ) (x : Deed) (h : List Deed) (u : ℕ) (allowed : Allowed o x h
   not-begun = go (beginsOn x u) refl
     where
       go : (b : Bool) → beginsOn x u ≡ b → b ≡ false
-      go true e = absurd (true≢false (sym (old .going) ∙ begun-allowed o x h u e allowed .1))
+      go true e = clash (old .going) (begun-allowed o x h u e allowed .1)
       go false e = refl
 
   not-struck : strikes x h u ≡ false
@@ -131,7 +131,7 @@ pub data Acted (x : Deed) (h : List Deed) (u : ℕ) : Type 0 where
   spends : endsOn x u ≡ false → spent h u < spent (x ∷ h) u → Acted x h u
 
 pub eldest-acts : (o : ℕ) (x : Deed) (h : List Deed) (u : ℕ) → Allowed o x h → Eldest h u → actsOn x u ≡ true → Acted x h u
-eldest-acts o (begins b) h u a old e = absurd (true≢false (sym e))
+eldest-acts o (begins b) h u a old e = clash e refl
 eldest-acts o (reads b d v) h u a old e =
     let all-told : struck h u ≡ setBacks h u = rw (eqb-true b u e) at (a .acting .all-told) in
     spends refl (step-spends o (reads b d v) h u a old refl e refl all-told)
@@ -146,7 +146,7 @@ eldest-acts o (told b) h u a old e =
     let untold : struck h u ≡ suc (setBacks h u) = rw (eqb-true b u e) at (a .2) in
     spends refl (told-spends o (told b) h u a old e untold)
 eldest-acts o (gives b) h u a old e = ends e
-eldest-acts o other h u a old e = absurd (true≢false (sym e))
+eldest-acts o other h u a old e = clash e refl
 
 -- a deed that is no act on core u neither ends, nor reads or writes, nor is told there
 idle : (x : Deed) (u : ℕ) → actsOn x u ≡ false → (endsOn x u ≡ false) × (stepsOn x u ≡ false) × (toldOn x u ≡ false)

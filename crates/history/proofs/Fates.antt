@@ -1,41 +1,44 @@
--- While the deeds since its begin neither commit it nor give it up, a transaction is in progress on its core with its number.
--- Assumes nothing.
+-- While the deeds since its begin neither commit it nor give it up, a transaction is in progress on its core with its number; so
+-- after the rounds that demand 3 allows, one or the other has happened. Assumes nothing.
 use mathlib.Core.Path.{_≡_, refl, sym, ap, _∙_}
-use mathlib.Core.Bool.{Bool, true, false, cond, true≢false}
+use mathlib.Core.Bool.{Bool, true, false, cond}
 use mathlib.Core.List.{List, [], _∷_, _++_, tail}
-use Prim.Native.Nat.{ℕ, zero, suc, _+_, _*_, _≤_, _<_}
+use Prim.Native.Nat.{ℕ, _+_, _*_, _≤_}
 use native.Mathlib.Nat.{mul-comm, mul-le-mul-left}
 use native.Mathlib.Omega.{arith}
 use lib.Dec.{eqb}
 use lib.ListN.{length}
-use borrow.Author.Tests.{eqb-true, eq-eqb, ne-eqb}
+use borrow.Author.Tests.{eqb-true, eq-eqb}
 use Rattle.machine.specs.Record.{tally}
 use Rattle.history.specs.Words.{Deed, begins, reads, writes, waits, commits, told, gives, other, beginsOn, endsOn, inProgress, births, born, attempt}
 use Rattle.history.specs.Rounds.{Rounds, Fate, in-progress, committed, given-up, fate, fateAfter, among, AtMost}
 use Rattle.history.proofs.Orderly.{Orderly}
 use Rattle.history.proofs.Tally.{tally-but-one}
-use Rattle.history.proofs.Births.{Going, begun, kept, going, going-on, begun-allowed, births-begun, births-late, born-begun, born-kept}
+use Rattle.history.proofs.Births.{clash, Going, begun, kept, going, going-on, begun-allowed, births-begun, births-late, born-begun, born-kept}
 use Rattle.history.proofs.RoundsBound.{Moment, Steady, among-going, out-of-rounds}
+
+committed-is-over : committed ≡ in-progress → ⊥
+committed-is-over e = let z : _≡_ {A = ℕ} 0 1 = cc in omega arith
+
+given-up-is-over : given-up ≡ in-progress → ⊥
+given-up-is-over e = let z : _≡_ {A = ℕ} 0 1 = cc in omega arith
+
+-- what would end it did not happen
+spared : (q : Bool) {f : Fate} → (f ≡ in-progress → ⊥) → cond q f in-progress ≡ in-progress → q ≡ false
+spared true over e = absurd (over e)
+spared false over e = refl
 
 -- one that is in progress after a deed was so before, and the deed did not end it
 fate-kept : (x : Deed) (c : ℕ) (f : Fate) → fateAfter x c f ≡ in-progress → (f ≡ in-progress) × (endsOn x c ≡ false)
-fate-kept x c committed e = let z : _≡_ {A = ℕ} 0 1 = cc in absurd (omega arith)
-fate-kept x c given-up e = let z : _≡_ {A = ℕ} 0 1 = cc in absurd (omega arith)
+fate-kept x c committed e = absurd (committed-is-over e)
+fate-kept x c given-up e = absurd (given-up-is-over e)
 fate-kept (begins b) c in-progress e = (refl, refl)
 fate-kept (reads b d v) c in-progress e = (refl, refl)
 fate-kept (writes b d v) c in-progress e = (refl, refl)
 fate-kept (waits b d) c in-progress e = (refl, refl)
-fate-kept (commits b n) c in-progress e = (refl, go (eqb b c) e)
-  where
-    go : (q : Bool) → cond q committed in-progress ≡ in-progress → q ≡ false
-    go true p = let z : _≡_ {A = ℕ} 0 1 = cc in absurd (omega arith)
-    go false p = refl
+fate-kept (commits b n) c in-progress e = (refl, spared (eqb b c) committed-is-over e)
 fate-kept (told b) c in-progress e = (refl, refl)
-fate-kept (gives b) c in-progress e = (refl, go (eqb b c) e)
-  where
-    go : (q : Bool) → cond q given-up in-progress ≡ in-progress → q ≡ false
-    go true p = let z : _≡_ {A = ℕ} 0 1 = cc in absurd (omega arith)
-    go false p = refl
+fate-kept (gives b) c in-progress e = (refl, spared (eqb b c) given-up-is-over e)
 fate-kept other c in-progress e = (refl, refl)
 
 -- T begun on core c after the list early
@@ -56,7 +59,7 @@ module _ (o c : ℕ) (early : List Deed) where
       (going-on x (since ++ start) c no-end p, born-kept x (since ++ start) c (go p (beginsOn x c) refl) ∙ q)
     where
       go : inProgress (since ++ start) c ≡ true → (b : Bool) → beginsOn x c ≡ b → b ≡ false
-      go p true r = absurd (true≢false (sym p ∙ begun-allowed o x (since ++ start) c r (a .0) .1))
+      go p true r = clash p (begun-allowed o x (since ++ start) c r (a .0) .1)
       go p false r = refl
 
   module _ (l : ℕ) where

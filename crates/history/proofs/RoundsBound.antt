@@ -1,9 +1,9 @@
 -- How many rounds a transaction T can be in progress. In each round the eldest in progress, which is T or one of those before it,
 -- acts, and each act ends it or takes it one step on in an attempt that nobody strikes. Assumes nothing.
-use mathlib.Core.Path.{_≡_, refl, sym, ap, ap₂, _∙_}
-use mathlib.Core.Bool.{Bool, true, false, _&&_, _||_, true≢false}
+use mathlib.Core.Path.{_≡_, refl, ap, ap₂}
+use mathlib.Core.Bool.{Bool, true, false, _&&_, _||_}
 use mathlib.Core.List.{List, [], _∷_, _++_}
-use Prim.Native.Nat.{ℕ, zero, suc, _+_, _*_, _≤_, _<_}
+use Prim.Native.Nat.{ℕ, suc, _+_, _*_, _≤_, _<_}
 use native.Mathlib.Nat.{mul-suc, mul-le-mul-left}
 use native.Mathlib.Omega.{arith}
 use lib.Dec.{leb}
@@ -15,12 +15,12 @@ use Rattle.history.specs.Words.{Deed, endsOn, actsOn, inProgress, births
 use Rattle.history.specs.Rounds.{Rounds, no-round, between, one-round, among, isRound}
 use Rattle.history.proofs.Orderly.{Orderly}
 use Rattle.history.proofs.Tally.{tally-mono, tally-less, tally-some}
-use Rattle.history.proofs.Births.{ended, births-grow, births-late, born-below, core-below, older-kept}
+use Rattle.history.proofs.Births.{clash, ended, births-grow, born-below, core-below, older-kept}
 use Rattle.history.proofs.Eldest.{Eldest, some-eldest, spent, spent-at-most, Acted, ends, spends, eldest-kept, eldest-acts, eldest-rests}
 
 -- ---- T and those before it
 
-pub is-among : (t : ℕ) (h : List Deed) (b : ℕ) → inProgress h b ≡ true → born h b ≤ t → among t h b ≡ true
+is-among : (t : ℕ) (h : List Deed) (b : ℕ) → inProgress h b ≡ true → born h b ≤ t → among t h b ≡ true
 unfolding among
 is-among t h b p l = ap₂ _&&_ p (le-leb (born h b) t l)
 
@@ -28,7 +28,7 @@ pub among-going : (t : ℕ) (h : List Deed) (b : ℕ) → among t h b ≡ true �
 unfolding among
 among-going t h b e = both-left (inProgress h b) (leb (born h b) t) e
 
-pub among-born : (t : ℕ) (h : List Deed) (b : ℕ) → among t h b ≡ true → born h b ≤ t
+among-born : (t : ℕ) (h : List Deed) (b : ℕ) → among t h b ≡ true → born h b ≤ t
 unfolding among
 among-born t h b e = leb-true (born h b) t (both-right (inProgress h b) (leb (born h b) t) e)
 
@@ -45,7 +45,7 @@ ended-not-among t x h b e = rw (ended x h b e)
 
 -- ---- a moment at which T is in progress
 
--- T is number t on core c; an attempt of T or of those before it takes less than `width` with its end
+-- T is number t on core c, o the number of cards; `width` bounds what the attempts of T and of those before it can spend
 module _ (o width t c : ℕ) where
   pub record Moment (h : List Deed) : Type 0 where
     pub orderly : Orderly o h
@@ -77,7 +77,7 @@ module _ (o width t c : ℕ) where
   steady-early [] h s = s
   steady-early (x ∷ late) h s = steady-early late h (steady-before x (late ++ h) s)
 
-  -- ---- after one deed
+  -- ---- the bound, and that each deed keeps it
 
   module _ (total : ℕ) where
     -- the bound after n rounds: each of those still in progress may take `width` rounds, less what the eldest, on core u, has spent
@@ -93,13 +93,13 @@ module _ (o width t c : ℕ) where
       no-more : width * tally 16 (among t (x ∷ h)) ≤ width * tally 16 (among t h)
       no-more = mul-le-mul-left width (tally-mono 16 (among t (x ∷ h)) (among t h) fewer)
 
+      -- the eldest ends: the others have less left, by more than it had spent
       after-end : endsOn x u ≡ true → (v : ℕ) × Standing (suc n) (x ∷ h) v
       after-end e =
           let (v, old) = some-eldest o (x ∷ h) c (next .orderly) (next .going) in
           let is-core = core-below o h u (now .moment .orderly) (now .eldest .going) in
-          let one-less =
-              tally-less 16 (among t (x ∷ h)) (among t h) u fewer is-core (ended-not-among t x h u e)
-              (eldest-among h u (now .moment) (now .eldest)) in
+          let here = eldest-among h u (now .moment) (now .eldest) in
+          let one-less = tally-less 16 (among t (x ∷ h)) (among t h) u fewer is-core (ended-not-among t x h u e) here in
           let saved = mul-le-mul-left width one-less in
           let split = mul-suc width (tally 16 (among t (x ∷ h))) in
           (v, record { moment = next; eldest = old; bound = omega (arith, now .bound, eldest-spent h u (now .moment) (now .eldest)) })
@@ -126,7 +126,7 @@ module _ (o width t c : ℕ) where
               (v, record { moment = next; eldest = s .eldest; bound = omega (arith, s .bound) })
           go false e = (u, after-rest e)
 
-    -- ---- after a stretch, after rounds
+    -- ---- after a stretch and after rounds
 
     -- the eldest on core u has acted in the stretch, or it stands as it stood
     data Stretched (n : ℕ) (h : List Deed) (u : ℕ) (stretch : List Deed) : Type 0 where
@@ -141,6 +141,7 @@ module _ (o width t c : ℕ) where
       where
         next : (k v : ℕ) → Standing k (stretch ++ h) v → Moment (x ∷ stretch ++ h)
         next k v m = steady-next x (stretch ++ h) s (has-begun (stretch ++ h) (m .moment))
+
         go : Stretched n h u stretch → Stretched n h u (x ∷ stretch)
         go (acted v m) = let (w, r) = after (suc n) x (stretch ++ h) v m (next (suc n) v m) in acted w r
         go (rested e m) = by-act (actsOn x u) refl
@@ -153,9 +154,7 @@ module _ (o width t c : ℕ) where
     round-acts : (h stretch : List Deed) (u : ℕ) → Moment h → Eldest h u → isRound t h stretch ≡ true
         → any (λ x. actsOn x u) stretch ≡ true
     unfolding isRound
-    round-acts h stretch u m old e =
-        rw (eldest-among h u m old) at
-        (each-one 16 _ e u (core-below o h u (m .orderly) (old .going)))
+    round-acts h stretch u m old e = rw (eldest-among h u m old) at (each-one 16 _ e u (core-below o h u (m .orderly) (old .going)))
 
     after-rounds : {start : List Deed} {n : ℕ} {h : List Deed} → (u : ℕ) × Standing 0 start u → Rounds t start n h → Steady h
         → (u : ℕ) × Standing n h u
@@ -169,11 +168,9 @@ module _ (o width t c : ℕ) where
       where
         go : (u : ℕ) → Standing n h u → Stretched n h u stretch → (v : ℕ) × Standing (suc n) (stretch ++ h) v
         go u now (acted v m) = (v, m)
-        go u now (rested f m) = absurd (true≢false (sym (round-acts h stretch u (now .moment) (now .eldest) e) ∙ f))
+        go u now (rested f m) = clash (round-acts h stretch u (now .moment) (now .eldest) e) f
 
-    -- ---- the bound on rounds
-
-    -- where the eldest and those in progress with it cannot take more than `total` rounds, T is not in progress after as many
+    -- if `width` rounds for T and for each of those before it make at most `total`, T is not in progress after `total` rounds
     pub out-of-rounds : {start h : List Deed} → Moment start → width * tally 16 (among t start) ≤ total → Rounds t start total h
         → Steady h → ⊥
     out-of-rounds {start} {h} m fits r s =

@@ -1,6 +1,6 @@
 -- Demand 3 of every transaction begun in an orderly list. Assumes nothing.
-use mathlib.Core.Path.{_≡_, refl, sym, _∙_}
-use mathlib.Core.List.{List, [], _∷_, _++_, append-assoc}
+use mathlib.Core.Path.{_≡_, refl, _∙_}
+use mathlib.Core.List.{List, _∷_, _++_, append-assoc}
 use Prim.Native.Nat.{ℕ, _≤_}
 use Rattle.history.specs.Words.{Deed, begins, waits, commits}
 use Rattle.history.specs.Rounds.{Fate, in-progress, committed, given-up, fate}
@@ -17,17 +17,20 @@ committed-else committed p q = refl
 committed-else given-up p q = absurd (q refl)
 
 pub served : (o : ℕ) (h : List Deed) → Orderly o h → o ≤ 64 → Served h
-served o h a l =
+served o h a _ =
     record {
-        at-most-k = λ late early c e p. struck-at-most o early c (orderly-early o h late early e a) p;
-        never-by-later = λ late early b n c e p. orderly-early o h late (commits b n ∷ early) e a .0 .strikes-later c p;
-        waits-behind = λ late early c e q.
-            let w = orderly-early o h late (waits c e ∷ early) q a .0 in
-            (w .going, w .earlier, w .in-conflict);
-        reported = λ late early c n e.
-            let k = orderly-early o h late (commits c n ∷ early) e a .0 in
-            (k .reports, k .reports ∙ k .acting .all-told);
-        within-rounds = λ late since early c l e m r p.
-            committed-else (fate since c)
-            (not-in-progress o c early l since (orderly-early o h late (since ++ begins c ∷ early) (e ∙ append-assoc late since (begins c ∷ early)) a) m r) p
+      at-most-k = λ late early c e. struck-at-most o early c (at-moment late early e);
+      never-by-later = λ late early b n c e. at-moment late (commits b n ∷ early) e .0 .strikes-later c;
+      waits-behind = λ late early c e q.
+          let w = at-moment late (waits c e ∷ early) q .0 in
+          (w .going, w .earlier, w .in-conflict);
+      reported = λ late early c n e.
+          let k = at-moment late (commits c n ∷ early) e .0 in
+          (k .reports, k .reports ∙ k .acting .all-told);
+      within-rounds = λ late since early c l e m r.
+          let now = at-moment late (since ++ begins c ∷ early) (e ∙ append-assoc late since (begins c ∷ early)) in
+          committed-else (fate since c) (not-in-progress o c early l since now m r);
     }
+  where
+    at-moment : (late early : List Deed) → h ≡ late ++ early → Orderly o early
+    at-moment late early e = orderly-early o h late early e a

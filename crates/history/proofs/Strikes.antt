@@ -1,18 +1,18 @@
 -- A transaction is struck at most as often as earlier ones were in progress at its begin: whoever strikes it is earlier and ends,
 -- and nobody that begins later is earlier. Assumes nothing.
-use mathlib.Core.Path.{_≡_, refl, sym, ap, ap₂, _∙_}
-use mathlib.Core.Bool.{Bool, true, false, cond, _&&_, true≢false}
+use mathlib.Core.Path.{_≡_, refl, ap₂}
+use mathlib.Core.Bool.{Bool, true, false, cond, _&&_}
 use mathlib.Core.List.{List, [], _∷_}
-use Prim.Native.Nat.{ℕ, zero, suc, _+_, _≤_, _<_}
+use Prim.Native.Nat.{ℕ, _+_, _≤_, _<_}
 use native.Mathlib.Omega.{arith}
-use lib.Dec.{eqb, ltb}
+use lib.Dec.{ltb}
 use borrow.Author.Tests.{ltb-true, lt-ltb, eq-eqb}
 use Rattle.objset.specs.Laws.{both-left, both-right}
 use Rattle.machine.specs.Record.{tally}
 use Rattle.history.specs.Words.{Deed, begins, reads, writes, waits, commits, told, gives, other, beginsOn, endsOn, inProgress, births, born, ahead, strikes, struck}
 use Rattle.history.proofs.Orderly.{Orderly, Allowed}
 use Rattle.history.proofs.Tally.{tally-mono, tally-less}
-use Rattle.history.proofs.Births.{Going, begun, kept, going, ended, born-begun, born-kept, born-below, core-below, older-kept}
+use Rattle.history.proofs.Births.{clash, Going, begun, kept, going, ended, born-begun, born-kept, born-below, older-kept}
 
 -- ---- who strikes
 
@@ -25,15 +25,15 @@ pub record Striker (x : Deed) (h : List Deed) (c : ℕ) : Type 0 where
   pub ends : endsOn x by ≡ true
 
 pub striker : (o : ℕ) (x : Deed) (h : List Deed) (c : ℕ) → strikes x h c ≡ true → Allowed o x h → Striker x h c
-striker o (begins b) h c e p = absurd (true≢false (sym e))
-striker o (reads b d v) h c e p = absurd (true≢false (sym e))
-striker o (writes b d v) h c e p = absurd (true≢false (sym e))
-striker o (waits b d) h c e p = absurd (true≢false (sym e))
+striker o (begins b) h c e p = clash e refl
+striker o (reads b d v) h c e p = clash e refl
+striker o (writes b d v) h c e p = clash e refl
+striker o (waits b d) h c e p = clash e refl
 striker o (commits b n) h c e p =
     record { by = b; is-core = p .acting .is-core; going = p .acting .going; earlier = p .strikes-later c e; ends = eq-eqb b b refl }
-striker o (told b) h c e p = absurd (true≢false (sym e))
-striker o (gives b) h c e p = absurd (true≢false (sym e))
-striker o other h c e p = absurd (true≢false (sym e))
+striker o (told b) h c e p = clash e refl
+striker o (gives b) h c e p = clash e refl
+striker o other h c e p = clash e refl
 
 -- ---- those begun before number t
 
@@ -73,7 +73,7 @@ ahead-kept x h c e = rw e
 -- the strikes so far and the earlier ones still in progress are together no more than the earlier ones at its begin
 struck-and-earlier : (o : ℕ) (h : List Deed) (c : ℕ) → Orderly o h → inProgress h c ≡ true → struck h c + tally 16 (before (born h c) h) ≤ ahead h c
 unfolding inProgress
-struck-and-earlier o [] c a p = absurd (true≢false (sym p))
+struck-and-earlier o [] c a p = clash p refl
 struck-and-earlier o (x ∷ h) c a p = go (going x h c p) (struck-and-earlier o h c (a .1))
   where
     go : Going x h c → (inProgress h c ≡ true → struck h c + tally 16 (before (born h c) h) ≤ ahead h c)
@@ -88,13 +88,16 @@ struck-and-earlier o (x ∷ h) c a p = go (going x h c p) (struck-and-earlier o 
       where
         fewer : (b : ℕ) → before (born h c) (x ∷ h) b ≡ true → before (born h c) h b ≡ true
         fewer = before-kept x h (born h c) (omega (arith, born-below h c q))
+
         by-strike : (s : Bool) → strikes x h c ≡ s → struck h c + tally 16 (before (born h c) h) ≤ ahead h c
             → cond s 1 0 + struck h c + tally 16 (before (born h c) (x ∷ h)) ≤ ahead h c
         by-strike true s r =
             let k = striker o x h c s (a .0) in
-            omega
-            (arith, tally-less 16 (before (born h c) (x ∷ h)) (before (born h c) h) (k .by) fewer (k .is-core)
-            (rw (ended x h (k .by) (k .ends)) refl) (is-before (born h c) h (k .by) (k .going) (k .earlier)))
+            omega (
+              arith,
+              tally-less 16 (before (born h c) (x ∷ h)) (before (born h c) h) (k .by) fewer (k .is-core)
+                  (rw (ended x h (k .by) (k .ends)) refl) (is-before (born h c) h (k .by) (k .going) (k .earlier)),
+            )
         by-strike false s r = omega (arith, tally-mono 16 (before (born h c) (x ∷ h)) (before (born h c) h) fewer)
 
 pub struck-at-most : (o : ℕ) (h : List Deed) (c : ℕ) → Orderly o h → inProgress h c ≡ true → struck h c ≤ ahead h c

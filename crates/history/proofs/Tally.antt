@@ -26,9 +26,11 @@ tally-but-one (suc n) f g u h = go (eqb n u) refl (tally-but-one n f g u h)
     below : (m : ℕ) → m ≤ u → tally m f ≤ tally m g
     below zero l = omega arith
     below (suc m) l = omega (arith, weight (f m) (g m) (h m (λ e. omega arith)), below m (omega arith))
+
     one : (a : Bool) → cond a 1 0 ≤ 1
     one true = omega arith
     one false = omega arith
+
     go : (q : Bool) → eqb n u ≡ q → tally n f ≤ suc (tally n g) → cond (f n) 1 0 + tally n f ≤ suc (cond (g n) 1 0 + tally n g)
     go true e rest = omega (arith, one (f n), below n (omega (arith, eqb-true n u e)))
     go false e rest = omega (arith, weight (f n) (g n) (h n (eqb-false n u e)), rest)
