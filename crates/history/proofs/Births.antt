@@ -13,8 +13,6 @@ use Rattle.history.proofs.Orderly.{Orderly, Allowed}
 pub clash : {A : Type 0} {b : Bool} → b ≡ true → b ≡ false → A
 clash p q = absurd (true≢false (sym p ∙ q))
 
--- ---- the lists before
-
 -- a beginning of an orderly list is orderly
 pub orderly-early : (o : ℕ) (h late early : List Deed) → h ≡ late ++ early → Orderly o h → Orderly o early
 orderly-early o h [] early e p = rw e at p
@@ -35,6 +33,14 @@ begun-is other c e = clash e refl
 -- a begin finds none in progress on its core
 pub begun-allowed : (o : ℕ) (x : Deed) (h : List Deed) (c : ℕ) → beginsOn x c ≡ true → Allowed o x h → (c < 16) × (inProgress h c ≡ false)
 begun-allowed o x h c e p = rw (begun-is x c e) at p
+
+-- so a deed is no begin where one is in progress
+pub going-not-begun : (o : ℕ) (x : Deed) (h : List Deed) (c : ℕ) → Allowed o x h → inProgress h c ≡ true → beginsOn x c ≡ false
+going-not-begun o x h c a p = go (beginsOn x c) refl
+  where
+    go : (b : Bool) → beginsOn x c ≡ b → b ≡ false
+    go true e = clash p (begun-allowed o x h c e a .1)
+    go false e = refl
 
 pub births-begun : (x : Deed) (h : List Deed) (c : ℕ) → beginsOn x c ≡ true → births (x ∷ h) ≡ suc (births h)
 unfolding births
@@ -108,7 +114,7 @@ core-below o (x ∷ h) c a p = go (going x h c p) (core-below o h c (a .1))
     go (begun e) rest = begun-allowed o x h c e (a .0) .0
     go (kept e f q) rest = rest q
 
--- what is in progress after a deed with a number that was given out before it was in progress before, with that number
+-- one in progress after the deed x, with a number that was given out before x, was in progress before x with that number
 pub older-kept : (x : Deed) (h : List Deed) (b : ℕ) → inProgress (x ∷ h) b ≡ true → born (x ∷ h) b < births h
     → (inProgress h b ≡ true) × (born (x ∷ h) b ≡ born h b)
 older-kept x h b p l = go (going x h b p)

@@ -10,12 +10,12 @@ use lib.ListN.{length}
 use borrow.Author.Tests.{ltb-true, ltb-false, eqb-true, eqb-false, eq-eqb, ne-eqb}
 use Rattle.history.specs.Words.{Deed, begins, reads, writes, waits, commits, told, gives, other, beginsOn, endsOn, stepsOn, toldOn, actsOn, inProgress, born, attempt, strikes, struck, setBacks}
 use Rattle.history.proofs.Orderly.{Orderly, Allowed}
-use Rattle.history.proofs.Births.{clash, Going, begun, kept, going, going-on, begun-allowed, born-begun, born-kept, born-below, core-below}
+use Rattle.history.proofs.Births.{clash, Going, begun, kept, going, going-on, going-not-begun, born-begun, born-kept, born-below, core-below}
 use Rattle.history.proofs.Strikes.{striker, struck-kept}
 
 -- ---- there is an eldest
 
--- one of the numbers below n that pass the test f has the least rank
+-- of the numbers below n that pass the test f, one of least rank, if any passes
 data Found (n : ℕ) (f : ℕ → Bool) (rank : ℕ → ℕ) : Type 0 where
   nobody : ((b : ℕ) → b < n → f b ≡ true → ⊥) → Found n f rank
   found : (u : ℕ) → f u ≡ true → ((b : ℕ) → b < n → f b ≡ true → rank u ≤ rank b) → Found n f rank
@@ -81,11 +81,7 @@ spent-at-most h u = go (eqb (struck h u) (setBacks h u))
 -- the deed x, allowed after the list h, where core u has the eldest
 module _ (o : ℕ) (x : Deed) (h : List Deed) (u : ℕ) (allowed : Allowed o x h) (old : Eldest h u) where
   not-begun : beginsOn x u ≡ false
-  not-begun = go (beginsOn x u) refl
-    where
-      go : (b : Bool) → beginsOn x u ≡ b → b ≡ false
-      go true e = clash (old .going) (begun-allowed o x h u e allowed .1)
-      go false e = refl
+  not-begun = going-not-begun o x h u allowed (old .going)
 
   not-struck : strikes x h u ≡ false
   not-struck = go (strikes x h u) refl

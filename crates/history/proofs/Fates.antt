@@ -14,7 +14,7 @@ use Rattle.history.specs.Words.{Deed, begins, reads, writes, waits, comm
 use Rattle.history.specs.Rounds.{Rounds, Fate, in-progress, committed, given-up, fate, fateAfter, among, AtMost}
 use Rattle.history.proofs.Orderly.{Orderly}
 use Rattle.history.proofs.Tally.{tally-but-one}
-use Rattle.history.proofs.Births.{clash, Going, begun, kept, going, going-on, begun-allowed, births-begun, births-late, born-begun, born-kept}
+use Rattle.history.proofs.Births.{Going, begun, kept, going, going-on, going-not-begun, births-begun, births-late, born-begun, born-kept}
 use Rattle.history.proofs.RoundsBound.{Moment, Steady, among-going, out-of-rounds}
 
 committed-is-over : committed ≡ in-progress → ⊥
@@ -56,11 +56,8 @@ module _ (o c : ℕ) (early : List Deed) where
   in-progress-since (x ∷ since) a e =
       let (f, no-end) = fate-kept x c (fate since c) e in
       let (p, q) = in-progress-since since (a .1) f in
-      (going-on x (since ++ start) c no-end p, born-kept x (since ++ start) c (go p (beginsOn x c) refl) ∙ q)
-    where
-      go : inProgress (since ++ start) c ≡ true → (b : Bool) → beginsOn x c ≡ b → b ≡ false
-      go p true r = clash p (begun-allowed o x (since ++ start) c r (a .0) .1)
-      go p false r = refl
+      let no-begin = going-not-begun o x (since ++ start) c (a .0) p in
+      (going-on x (since ++ start) c no-end p, born-kept x (since ++ start) c no-begin ∙ q)
 
   module _ (l : ℕ) where
     -- the newest moment

@@ -93,11 +93,9 @@ struck-and-earlier o (x ∷ h) c a p = go (going x h c p) (struck-and-earlier o 
             → cond s 1 0 + struck h c + tally 16 (before (born h c) (x ∷ h)) ≤ ahead h c
         by-strike true s r =
             let k = striker o x h c s (a .0) in
-            omega (
-              arith,
-              tally-less 16 (before (born h c) (x ∷ h)) (before (born h c) h) (k .by) fewer (k .is-core)
-                  (rw (ended x h (k .by) (k .ends)) refl) (is-before (born h c) h (k .by) (k .going) (k .earlier)),
-            )
+            let gone : before (born h c) (x ∷ h) (k .by) ≡ false = rw (ended x h (k .by) (k .ends)) in
+            let here = is-before (born h c) h (k .by) (k .going) (k .earlier) in
+            omega (arith, tally-less 16 (before (born h c) (x ∷ h)) (before (born h c) h) (k .by) fewer (k .is-core) gone here)
         by-strike false s r = omega (arith, tally-mono 16 (before (born h c) (x ∷ h)) (before (born h c) h) fewer)
 
 pub struck-at-most : (o : ℕ) (h : List Deed) (c : ℕ) → Orderly o h → inProgress h c ≡ true → struck h c ≤ ahead h c
