@@ -1,16 +1,17 @@
 -- What a deed changes of a transaction in progress: it goes on with its number, unless the deed is its begin or its end.
 -- Assumes nothing.
-use mathlib.Core.Path.{_≡_, refl, sym, ap, _∙_}
+use mathlib.Core.Path.{_≡_, refl, sym, _∙_}
 use mathlib.Core.Bool.{Bool, true, false, cond, true≢false}
 use mathlib.Core.List.{List, [], _∷_, _++_}
-use Prim.Native.Nat.{ℕ, zero, suc, _+_, _≤_, _<_}
+use Prim.Native.Nat.{ℕ, suc, _≤_, _<_}
 use native.Mathlib.Omega.{arith}
-use lib.Dec.{eqb}
 use borrow.Author.Tests.{eqb-true}
-use Rattle.history.specs.Words.{Deed, begins, reads, writes, waits, commits, told, gives, other, beginsOn, endsOn, isBegin, inProgress, births, born}
+use Rattle.history.specs.Words.{Deed, begins, reads, writes, waits, commits, told, gives, other, beginsOn, endsOn, inProgress, births, born}
 use Rattle.history.proofs.Orderly.{Orderly, Allowed}
 
--- ---- the lists before
+-- a test does not both pass and fail
+pub clash : {A : Type 0} {b : Bool} → b ≡ true → b ≡ false → A
+clash p q = absurd (true≢false (sym p ∙ q))
 
 -- a beginning of an orderly list is orderly
 pub orderly-early : (o : ℕ) (h late early : List Deed) → h ≡ late ++ early → Orderly o h → Orderly o early
@@ -19,30 +20,31 @@ orderly-early o h (x ∷ late) early e p = orderly-early o (late ++ early) late 
 
 -- ---- a begin
 
+begun-is : (x : Deed) (c : ℕ) → beginsOn x c ≡ true → x ≡ begins c
+begun-is (begins b) c e = rw (eqb-true b c e)
+begun-is (reads b d v) c e = clash e refl
+begun-is (writes b d v) c e = clash e refl
+begun-is (waits b d) c e = clash e refl
+begun-is (commits b n) c e = clash e refl
+begun-is (told b) c e = clash e refl
+begun-is (gives b) c e = clash e refl
+begun-is other c e = clash e refl
+
 -- a begin finds none in progress on its core
 pub begun-allowed : (o : ℕ) (x : Deed) (h : List Deed) (c : ℕ) → beginsOn x c ≡ true → Allowed o x h → (c < 16) × (inProgress h c ≡ false)
-begun-allowed o (begins b) h c e p = rw (eqb-true b c e) at p
-begun-allowed o (reads b d v) h c e p = absurd (true≢false (sym e))
-begun-allowed o (writes b d v) h c e p = absurd (true≢false (sym e))
-begun-allowed o (waits b d) h c e p = absurd (true≢false (sym e))
-begun-allowed o (commits b n) h c e p = absurd (true≢false (sym e))
-begun-allowed o (told b) h c e p = absurd (true≢false (sym e))
-begun-allowed o (gives b) h c e p = absurd (true≢false (sym e))
-begun-allowed o other h c e p = absurd (true≢false (sym e))
+begun-allowed o x h c e p = rw (begun-is x c e) at p
 
-begins-is-begin : (x : Deed) (c : ℕ) → beginsOn x c ≡ true → isBegin x ≡ true
-begins-is-begin (begins b) c e = refl
-begins-is-begin (reads b d v) c e = e
-begins-is-begin (writes b d v) c e = e
-begins-is-begin (waits b d) c e = e
-begins-is-begin (commits b n) c e = e
-begins-is-begin (told b) c e = e
-begins-is-begin (gives b) c e = e
-begins-is-begin other c e = e
+-- so a deed is no begin where one is in progress
+pub going-not-begun : (o : ℕ) (x : Deed) (h : List Deed) (c : ℕ) → Allowed o x h → inProgress h c ≡ true → beginsOn x c ≡ false
+going-not-begun o x h c a p = go (beginsOn x c) refl
+  where
+    go : (b : Bool) → beginsOn x c ≡ b → b ≡ false
+    go true e = clash p (begun-allowed o x h c e a .1)
+    go false e = refl
 
 pub births-begun : (x : Deed) (h : List Deed) (c : ℕ) → beginsOn x c ≡ true → births (x ∷ h) ≡ suc (births h)
 unfolding births
-births-begun x h c e = rw (begins-is-begin x c e) (omega arith)
+births-begun x h c e = rw (begun-is x c e) (omega arith)
 
 pub births-grow : (x : Deed) (h : List Deed) → births h ≤ births (x ∷ h)
 unfolding births
@@ -73,7 +75,7 @@ going x h c p = go (beginsOn x c) (endsOn x c) refl refl p
   where
     go : (b e : Bool) → beginsOn x c ≡ b → endsOn x c ≡ e → cond b true (cond e false (inProgress h c)) ≡ true → Going x h c
     go true e q r s = begun q
-    go false true q r s = absurd (true≢false (sym s))
+    go false true q r s = clash s refl
     go false false q r s = kept q r s
 
 pub going-on : (x : Deed) (h : List Deed) (c : ℕ) → endsOn x c ≡ false → inProgress h c ≡ true → inProgress (x ∷ h) c ≡ true
@@ -84,24 +86,18 @@ going-on x h c e p = go (beginsOn x c)
     go true = refl
     go false = rw e p
 
-ends-no-begin : (x : Deed) (c : ℕ) → endsOn x c ≡ true → beginsOn x c ≡ false
-ends-no-begin (begins b) c e = absurd (true≢false (sym e))
-ends-no-begin (reads b d v) c e = refl
-ends-no-begin (writes b d v) c e = refl
-ends-no-begin (waits b d) c e = refl
-ends-no-begin (commits b n) c e = refl
-ends-no-begin (told b) c e = refl
-ends-no-begin (gives b) c e = refl
-ends-no-begin other c e = refl
-
 pub ended : (x : Deed) (h : List Deed) (c : ℕ) → endsOn x c ≡ true → inProgress (x ∷ h) c ≡ false
 unfolding inProgress
-ended x h c e = rw (ends-no-begin x c e, e)
+ended x h c e = go (beginsOn x c) refl
+  where
+    go : (b : Bool) → beginsOn x c ≡ b → cond b true (cond (endsOn x c) false (inProgress h c)) ≡ false
+    go true f = clash e (rw (begun-is x c f))
+    go false f = rw e
 
 -- one in progress was begun, so its number is below the count of begins
 pub born-below : (h : List Deed) (c : ℕ) → inProgress h c ≡ true → born h c < births h
 unfolding inProgress
-born-below [] c p = absurd (true≢false (sym p))
+born-below [] c p = clash p refl
 born-below (x ∷ h) c p = go (going x h c p) (born-below h c)
   where
     go : Going x h c → (inProgress h c ≡ true → born h c < births h) → born (x ∷ h) c < births (x ∷ h)
@@ -111,14 +107,14 @@ born-below (x ∷ h) c p = go (going x h c p) (born-below h c)
 -- only the sixteen cores have one in progress
 pub core-below : (o : ℕ) (h : List Deed) (c : ℕ) → Orderly o h → inProgress h c ≡ true → c < 16
 unfolding inProgress
-core-below o [] c a p = absurd (true≢false (sym p))
+core-below o [] c a p = clash p refl
 core-below o (x ∷ h) c a p = go (going x h c p) (core-below o h c (a .1))
   where
     go : Going x h c → (inProgress h c ≡ true → c < 16) → c < 16
     go (begun e) rest = begun-allowed o x h c e (a .0) .0
     go (kept e f q) rest = rest q
 
--- what is in progress after a deed with a number that was given out before it was in progress before, with that number
+-- one in progress after the deed x, with a number that was given out before x, was in progress before x with that number
 pub older-kept : (x : Deed) (h : List Deed) (b : ℕ) → inProgress (x ∷ h) b ≡ true → born (x ∷ h) b < births h
     → (inProgress h b ≡ true) × (born (x ∷ h) b ≡ born h b)
 older-kept x h b p l = go (going x h b p)

@@ -110,7 +110,8 @@ whole-run cores objects committed pending ready {es} {w} run =
       same-cards =
         λ late early p.
           let r = run-early late early run p in
-          ap (λ (u : World). u .committed) (sym (run-worked (r .1))) ∙ rw same (run-agrees a (r .1) .0 .same-committed);
+          ap (λ (u : World). u .committed) (sym (run-worked (r .1))) ∙ run-agrees a (r .1) .0 .same-committed
+          ∙ ap (λ (n : ℕ). serial n (deeds early)) (sym same);
       same-versions =
         λ late early c d v n p.
           let r = run-early late (record { call = Read c d; answer = Value v n } ∷ early) run p in

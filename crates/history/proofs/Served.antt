@@ -1,0 +1,36 @@
+-- Demand 3 of every transaction begun in an orderly list. Assumes nothing.
+use mathlib.Core.Path.{_≡_, refl, _∙_}
+use mathlib.Core.List.{List, _∷_, _++_, append-assoc}
+use Prim.Native.Nat.{ℕ}
+use Rattle.history.specs.Words.{Deed, begins, waits, commits}
+use Rattle.history.specs.Rounds.{Fate, in-progress, committed, given-up, fate}
+use Rattle.history.specs.Claims.{Served}
+use Rattle.history.proofs.Orderly.{Orderly}
+use Rattle.history.proofs.Births.{orderly-early}
+use Rattle.history.proofs.Strikes.{struck-at-most}
+use Rattle.history.proofs.Fates.{not-in-progress}
+
+-- what is neither in progress nor given up is committed
+committed-else : (f : Fate) → (f ≡ in-progress → ⊥) → (f ≡ given-up → ⊥) → f ≡ committed
+committed-else in-progress p q = absurd (p refl)
+committed-else committed p q = refl
+committed-else given-up p q = absurd (q refl)
+
+pub served : (o : ℕ) (h : List Deed) → Orderly o h → Served h
+served o h a =
+    record {
+      at-most-k = λ late early c e. struck-at-most o early c (at-moment late early e);
+      never-by-later = λ late early b n c e. at-moment late (commits b n ∷ early) e .0 .strikes-later c;
+      waits-behind = λ late early c e q.
+          let w = at-moment late (waits c e ∷ early) q .0 in
+          (w .going, w .earlier, w .in-conflict);
+      reported = λ late early c n e.
+          let k = at-moment late (commits c n ∷ early) e .0 in
+          (k .reports, k .reports ∙ k .acting .all-told);
+      within-rounds = λ late since early c l e m r.
+          let now = at-moment late (since ++ begins c ∷ early) (e ∙ append-assoc late since (begins c ∷ early)) in
+          committed-else (fate since c) (not-in-progress o c early l since now m r);
+    }
+  where
+    at-moment : (late early : List Deed) → h ≡ late ++ early → Orderly o early
+    at-moment late early e = orderly-early o h late early e a
