@@ -1,0 +1,3 @@
+mod Spelling
+mod Reading
+pub mod Laws
