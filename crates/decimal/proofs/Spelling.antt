@@ -46,6 +46,9 @@ pub spelling-more : (n : ℕ) → 10 ≤ n → n < 10 ^ 10 → spelling n ≡ sp
 unfolding spelling
 spelling-more n m h = in-more 9 n m ∙ ap (λ (ds : List ℕ). ds ++ (glyph (n % 10) ∷ [])) (sym (wider 8 (n / 10) (tenth 9 n h)))
 
+pub spelling-longer : (n : ℕ) → 10 ≤ n → n < 10 ^ 10 → length (spelling n) ≡ length (spelling (n / 10)) + 1
+spelling-longer n m h = rw (spelling-more n m h, length-append)
+
 -- a spelling has 1 to 10 digits
 length-in : (places n : ℕ) → length (spellingIn places n) ≤ places
 unfolding spellingIn
