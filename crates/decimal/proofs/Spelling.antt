@@ -9,9 +9,10 @@ use native.Mathlib.Nat.{pow-suc, div-lt-iff-lt-mul, div-add-mod', mod-lt}
 use native.Mathlib.Decide.{decLt}
 use native.Mathlib.Omega.{arith}
 use lib.Dec.{leb, lit<}
-use lib.ListN.{length, getD, length-append}
+use lib.ListN.{length, getD, take, drop, length-append}
+use lib.Seq.{take-at}
 use borrow.Author.Tests.{lt-ltb, le-ltb, le-leb, ne-eqb}
-use Rattle.decimal.specs.Spelling.{glyph, spellingIn, spelling}
+use Rattle.decimal.specs.Spelling.{glyph, spellingIn, spelling, shown, printed}
 use Rattle.decimal.specs.Reading.{allDigits, noLeadingZero, valueAfter}
 
 -- a number below 10 is one digit, and any other is the digits of a tenth of it and one more
@@ -135,3 +136,17 @@ pub spelling-leads : (n : ℕ) → n < 10 ^ 10 → noLeadingZero (spelling n) �
 unfolding spelling spellingIn noLeadingZero
 spelling-leads zero h = refl
 spelling-leads (suc n) h = leads (spelling (suc n)) (front-in 10 (suc n) (omega arith) h)
+
+-- ---- what printing shows
+
+pub shown-short : (n : ℕ) (scratch : List ℕ) → length scratch < 10 → shown n scratch ≡ []
+unfolding shown
+shown-short n scratch h = rw (lt-ltb (length scratch) 10 h)
+
+pub shown-whole : (n : ℕ) (scratch : List ℕ) → 10 ≤ length scratch → shown n scratch ≡ spelling n
+unfolding shown
+shown-whole n scratch h = rw (le-ltb (length scratch) 10 h)
+
+pub printed-part : (n : ℕ) (scratch : List ℕ) (k : ℕ) → k ≡ length (shown n scratch) → take k (printed n scratch) ≡ shown n scratch
+unfolding printed
+printed-part n scratch k e = take-at (shown n scratch) (drop (length (shown n scratch)) scratch) k (sym e)
