@@ -1,17 +1,21 @@
--- What decides how a field reads: its digits one by one, and the number that they come to.
+-- What decides how a field reads: its first byte, its digits one by one, and the number that they come to.
 -- Assumes nothing.
-use mathlib.Core.Path.{_≡_, refl}
+use mathlib.Core.Path.{_≡_, refl, sym, _∙_, ap}
 use mathlib.Core.Bool.{Bool, true, false, cond, _&&_, and-eq-true-iff}
 use mathlib.Core.List.{List, [], _∷_}
 use Prim.Native.Nat.{ℕ, _+_, _-_, _*_, _≤_, _<_}
+use native.Mathlib.Numerals.{add-one}
 use native.Mathlib.Omega.{arith}
 use lib.Dec.{leb}
-use borrow.Author.Tests.{le-leb, lt-leb, leb-true}
+use lib.ListN.{length, getD, drop, drop-of-length-le}
+use lib.Seq.{drop-cons}
+use borrow.Author.Tests.{le-leb, lt-leb, leb-true, eq-eqb, ne-eqb}
 use Rattle.decimal.specs.declared.Number.the-variants.{Value, Malformed}
 use Rattle.decimal.specs.Reading.{largest, allDigits, noLeadingZero, valueAfter, isNumber, reads}
 
--- ---- the first byte of digits is a digit, and the rest are digits
+-- ---- digits
 
+-- the first byte of digits is a digit, and the rest are digits
 pub record Digits (b : ℕ) (bs : List ℕ) : Type 0 where
   pub low : 48 ≤ b
   pub high : b ≤ 57
@@ -24,40 +28,27 @@ digits {b} {bs} e =
     let d = and-eq-true-iff (leb 48 b) (leb b 57) .0 (k .0) in
     record { low = leb-true 48 b (d .0); high = leb-true b 57 (d .1); rest = k .1 }
 
--- past a digit, whether all are digits is for the rest to say; past any other byte they are not
-pub past-digit : (b : ℕ) (bs : List ℕ) → 48 ≤ b → b ≤ 57 → allDigits (b ∷ bs) ≡ allDigits bs
-unfolding allDigits
-past-digit b bs l h = rw (le-leb 48 b l, le-leb b 57 h)
-
-pub below-digits : (b : ℕ) (bs : List ℕ) → b < 48 → allDigits (b ∷ bs) ≡ false
-unfolding allDigits
-below-digits b bs h = rw (lt-leb 48 b h)
-
-and-false : (t : Bool) → (t && false) ≡ false
-and-false true = refl
-and-false false = refl
-
-pub above-digits : (b : ℕ) (bs : List ℕ) → 57 < b → allDigits (b ∷ bs) ≡ false
-unfolding allDigits
-above-digits b bs h = rw (lt-leb b 57 h, and-false)
-
 -- digits after those of n come to no less than n
 pub value-grows : (n : ℕ) (bs : List ℕ) → n ≤ valueAfter n bs
 unfolding valueAfter
 value-grows n [] = omega arith
 value-grows n (b ∷ bs) = omega (arith, value-grows (n * 10 + (b - 48)) bs)
 
--- ---- a field reads as malformed by any one of the three tests, and as a number by all
+-- ---- a field is malformed by any one of three tests, and a number by all
 
-pub no-digits : (field : List ℕ) → allDigits field ≡ false → reads field ≡ Malformed
+and-false : (t : Bool) → (t && false) ≡ false
+and-false true = refl
+and-false false = refl
+
+no-digits : (field : List ℕ) → allDigits field ≡ false → reads field ≡ Malformed
 unfolding reads isNumber
 no-digits field e = rw e
 
-pub leading-zero : (field : List ℕ) → noLeadingZero field ≡ false → reads field ≡ Malformed
+no-front : (field : List ℕ) → noLeadingZero field ≡ false → reads field ≡ Malformed
 unfolding reads isNumber
-leading-zero field e = rw (e, and-false)
+no-front field e = rw (e, and-false)
 
-pub too-large : (field : List ℕ) → largest < valueAfter 0 field → reads field ≡ Malformed
+too-large : (field : List ℕ) → largest < valueAfter 0 field → reads field ≡ Malformed
 unfolding reads isNumber
 too-large field h = rw (lt-leb (valueAfter 0 field) largest h, and-false)
 
@@ -83,3 +74,71 @@ reads-as field n e =
     let k = and-eq-true-iff (allDigits field && noLeadingZero field) (leb (valueAfter 0 field) largest) .0 (v .0) in
     let d = and-eq-true-iff (allDigits field) (noLeadingZero field) .0 (k .0) in
     record { all = d .0; fronted = d .1; small = omega (arith, leb-true (valueAfter 0 field) largest (k .1), v .1); value = v .1 }
+
+-- ---- the front of a field
+
+pub empty : (field : List ℕ) → length field ≡ 0 → reads field ≡ Malformed
+unfolding noLeadingZero
+empty [] e = no-front [] refl
+empty (b ∷ bs) e = absurd (omega arith)
+
+pub leading-zero : (field : List ℕ) → getD field 0 0 ≡ 48 → 1 < length field → reads field ≡ Malformed
+unfolding noLeadingZero
+leading-zero [] e h = absurd (omega arith)
+leading-zero (b ∷ []) e h = absurd (omega arith)
+leading-zero (b ∷ c ∷ bs) e h = no-front (b ∷ c ∷ bs) (rw (eq-eqb b 48 e))
+
+pub one-byte : (field : List ℕ) → length field ≡ 1 → noLeadingZero field ≡ true
+unfolding noLeadingZero
+one-byte [] e = absurd (omega arith)
+one-byte (b ∷ []) e = refl
+one-byte (b ∷ c ∷ bs) e = absurd (omega arith)
+
+pub no-zero : (field : List ℕ) → 1 ≤ length field → (getD field 0 0 ≡ 48 → ⊥) → noLeadingZero field ≡ true
+unfolding noLeadingZero
+no-zero [] h z = absurd (omega arith)
+no-zero (b ∷ []) h z = refl
+no-zero (b ∷ c ∷ bs) h z = rw (ne-eqb b 48 z)
+
+-- ---- byte by byte: the bytes before i are digits that stand for n
+
+pub record Read (field : List ℕ) (n i : ℕ) : Type 0 where
+  pub all : allDigits (drop i field) ≡ allDigits field
+  pub value : valueAfter n (drop i field) ≡ valueAfter 0 field
+
+module _ (field : List ℕ) (n i : ℕ) (so-far : Read field n i) (h : i < length field) where
+  rest : drop i field ≡ getD field i 0 ∷ drop (i + 1) field
+  rest = rw (add-one, drop-cons field i 0)
+
+  all-rest : allDigits field ≡ allDigits (getD field i 0 ∷ drop (i + 1) field)
+  all-rest = sym (so-far .all) ∙ ap allDigits rest
+
+  value-rest : valueAfter 0 field ≡ valueAfter (n * 10 + (getD field i 0 - 48)) (drop (i + 1) field)
+  unfolding valueAfter
+  value-rest = sym (so-far .value) ∙ ap (valueAfter n) rest
+
+  pub below-digits : getD field i 0 < 48 → reads field ≡ Malformed
+  unfolding allDigits
+  below-digits l = no-digits field (all-rest ∙ rw (lt-leb 48 (getD field i 0) l))
+
+  pub above-digits : 57 < getD field i 0 → reads field ≡ Malformed
+  unfolding allDigits
+  above-digits l = no-digits field (all-rest ∙ rw (lt-leb (getD field i 0) 57 l, and-false))
+
+  pub past-largest : largest < n * 10 + (getD field i 0 - 48) → reads field ≡ Malformed
+  past-largest l =
+      let m : ℕ = n * 10 + (getD field i 0 - 48) in
+      too-large field (omega (arith, value-rest, value-grows m (drop (i + 1) field)))
+
+  pub one-more : 48 ≤ getD field i 0 → getD field i 0 ≤ 57 → Read field (n * 10 + (getD field i 0 - 48)) (i + 1)
+  unfolding allDigits
+  one-more l u = record {
+      all = sym (all-rest ∙ rw (le-leb 48 (getD field i 0) l, le-leb (getD field i 0) 57 u));
+      value = sym value-rest;
+    }
+
+pub read-whole : (field : List ℕ) (n i : ℕ) → Read field n i → length field ≤ i → noLeadingZero field ≡ true → n ≤ largest → reads field ≡ Value n
+unfolding allDigits valueAfter
+read-whole field n i so-far end front small =
+    let none = drop-of-length-le field end in
+    a-number field n (sym (so-far .all) ∙ ap allDigits none) front (sym (so-far .value) ∙ ap (valueAfter n) none) small

@@ -12,8 +12,6 @@ use Rattle.decimal.specs.Spelling.{spelling}
 use Rattle.decimal.proofs.Spelling.{spelling-one, spelling-more, spelling-longer, spelling-length}
 use Rattle.decimal.proofs.fill.Statement.{statement}
 use Rattle.decimal.proofs.fill.Tie as tie
-use Rattle.decimal.proofs.fill.Reads as reads
-use Rattle.decimal.proofs.fill.Lts as lts
 
 -- what stands at i and after it, once d is stored there
 dropped : (s : List ℕ) (i d : ℕ) → i < length s → drop i (set s i d) ≡ d ∷ drop (i + 1) s

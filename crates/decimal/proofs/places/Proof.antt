@@ -9,8 +9,6 @@ use Rattle.decimal.specs.Spelling.{spelling}
 use Rattle.decimal.proofs.Spelling.{spelling-one, spelling-longer, spelling-length}
 use Rattle.decimal.proofs.places.Statement.{statement}
 use Rattle.decimal.proofs.places.Tie as tie
-use Rattle.decimal.proofs.places.Reads as reads
-use Rattle.decimal.proofs.places.Lts as lts
 
 abbrev Inv-loop : tie.InvT-loop
 Inv-loop n k₀ rest₀ k rest = (k + length (spelling rest) ≡ length (spelling n) + 1) × (rest ≤ n)

@@ -1,92 +1,99 @@
--- `decimal::read` meets its contract.
+-- `decimal::read` meets its contract. The loop's invariant: the field has no leading zero, and its bytes before `i` are digits that stand
+-- for `n`. The measure is what is left of the field.
 -- Assumes nothing.
-use mathlib.Core.Path.{_≡_, refl, sym, ap, _∙_}
+use mathlib.Core.Path.{_≡_, refl, sym}
 use mathlib.Core.Logic.{⊎-elim}
 use mathlib.Core.Bool.{true}
-use mathlib.Core.List.{List, [], _∷_}
-use Prim.Native.Nat.{ℕ, suc, _+_, _-_, _*_, _≤_, _<_}
+use mathlib.Core.List.{List}
+use Prim.Native.Nat.{ℕ, _-_, _≤_}
 use native.Mathlib.Omega.{arith}
-use native.Mathlib.Numerals.{add-one}
-use lib.ListN.{length, drop, getD}
-use lib.Seq.{drop-cons}
-use Rattle.decimal.specs.Reading.{largest, allDigits, noLeadingZero, valueAfter, reads}
-use Rattle.decimal.proofs.Reading.{past-digit, below-digits, above-digits, value-grows, no-digits, leading-zero, too-large, a-number}
+use lib.ListN.{length}
+use denote.Ref.{now}
+use Rattle.decimal.specs.Reading.{largest, noLeadingZero}
+use Rattle.decimal.proofs.Reading.{empty, leading-zero, one-byte, no-zero, Read, below-digits, above-digits, past-largest, one-more, read-whole}
 use Rattle.decimal.proofs.read.Statement.{statement}
 use Rattle.decimal.proofs.read.Tie as tie
-use Rattle.decimal.proofs.read.Reads as reads'
-use Rattle.decimal.proofs.read.Lts as lts
 
 abbrev Inv-loop : tie.InvT-loop
-Inv-loop field n₀ i₀ n i =
-    (noLeadingZero field ≡ true) × (allDigits (drop i field) ≡ allDigits field) × (valueAfter n (drop i field) ≡ valueAfter 0 field)
-        × (i ≤ length field) × (n ≤ largest)
+Inv-loop field n₀ i₀ n i = (noLeadingZero field ≡ true) × Read field n i × (i ≤ length field) × (n ≤ largest)
 
 abbrev μ-loop : tie.MeasureT-loop
 μ-loop field n₀ i₀ n i = length field - i
 
--- src/lib.rt:26:9
 returns : tie.Need-returns Inv-loop μ-loop
-returns c = ?
+returns c = sym (empty (now (c .before .args .field)) (c .if1 .taken))
 
--- src/lib.rt:28:8
 shared-slice-read-if2 : tie.Need-shared-slice-read-if2 Inv-loop μ-loop
 shared-slice-read-if2 c = omega arith
 
--- src/lib.rt:30:13
 returns-2 : tie.Need-returns-2 Inv-loop μ-loop
-returns-2 c = ?
+returns-2 c = sym (leading-zero (now (c .before .before .before .before .args .field)) (c .before .if2 .taken) (c .if3 .taken))
 
--- src/lib.rt:35:5
 loop-holds : tie.Need-loop-holds Inv-loop μ-loop
-loop-holds c = ?
+loop-holds c =
+    let field = now (c .before .before .before .args .field) in (
+      ⊎-elim (λ w. one-byte field (omega arith)) (λ w. no-zero field (omega arith) (w .left)) (c .if2 .came),
+      record { all = refl; value = refl },
+      omega arith,
+      omega arith,
+    )
 
--- src/lib.rt:36:17
 shared-slice-read-b : tie.Need-shared-slice-read-b Inv-loop μ-loop
 shared-slice-read-b c = omega arith
 
--- src/lib.rt:38:13
+abbrev F : tie.In-loop Inv-loop μ-loop → List ℕ
+F c = now (c .before .before .before .before .before .args .field)
+
 returns-3 : tie.Need-returns-3 Inv-loop μ-loop
-returns-3 c = ?
+returns-3 c =
+    let turn = c .before .before in
+    let at = turn .before .loop in
+    sym (below-digits (F turn) (at .n) (at .i) (at .inv .1) (turn .loop-test .taken) (c .if4 .taken))
 
--- src/lib.rt:41:13
 returns-4 : tie.Need-returns-4 Inv-loop μ-loop
-returns-4 c = ?
+returns-4 c =
+    let turn = c .before .before .before in
+    let at = turn .before .loop in
+    sym (above-digits (F turn) (at .n) (at .i) (at .inv .1) (turn .loop-test .taken) (c .if5 .taken))
 
--- src/lib.rt:43:13
 mul-n : tie.Need-mul-n Inv-loop μ-loop
 mul-n c = omega arith
 
--- src/lib.rt:43:22
 cast-n : tie.Need-cast-n Inv-loop μ-loop
-cast-n c = ?
+cast-n c = omega arith
 
--- src/lib.rt:43:13
 add-n : tie.Need-add-n Inv-loop μ-loop
 add-n c = omega arith
 
--- src/lib.rt:45:13
 returns-5 : tie.Need-returns-5 Inv-loop μ-loop
-returns-5 c = ?
+returns-5 c =
+    let turn = c .before .before .before .before in
+    let at = turn .before .loop in
+    sym (past-largest (F turn) (at .n) (at .i) (at .inv .1) (turn .loop-test .taken) (c .if6 .taken))
 
--- src/lib.rt:47:9
 add-i : tie.Need-add-i Inv-loop μ-loop
 add-i c = omega arith
 
--- src/lib.rt:35:5
 loop-less : tie.Need-loop-less Inv-loop μ-loop
 loop-less c = omega arith
 
--- src/lib.rt:35:5
 loop-again : tie.Need-loop-again Inv-loop μ-loop
-loop-again c = ?
+loop-again c =
+    let turn = c .before .before .before .before in
+    let at = turn .before .loop in (
+      at .inv .0,
+      one-more (F turn) (at .n) (at .i) (at .inv .1) (turn .loop-test .taken) (c .before .before .if4 .left) (c .before .if5 .left),
+      omega arith,
+      omega arith,
+    )
 
--- src/lib.rt:49:19
 cast-t17 : tie.Need-cast-t17 Inv-loop μ-loop
 cast-t17 c = omega arith
 
--- src/lib.rt:22:1
 returns-6 : tie.Need-returns-6 Inv-loop μ-loop
-returns-6 c = ?
+returns-6 c =
+    let at = c .before .loop in
+    sym (read-whole (now (c .before .before .before .before .before .args .field)) (at .n) (at .i) (at .inv .1) (c .loop-test .left) (at .inv .0) (at .inv .3))
 
 pub read-spec : {M : Type 1} → statement M
 read-spec =
