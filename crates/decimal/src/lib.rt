@@ -25,19 +25,14 @@ pub fn read(field: &[u8]) -> Number
     if field.len() == 0 {
         return Number::Malformed;
     }
-    if field[0] == b'0' {
-        if 1 < field.len() {
-            return Number::Malformed;
-        }
+    if field[0] == b'0' && 1 < field.len() {
+        return Number::Malformed;
     }
     let mut n: u64 = 0;
     let mut i = 0;
     while i < field.len() {
         let b = field[i];
-        if b < b'0' {
-            return Number::Malformed;
-        }
-        if b'9' < b {
+        if b < b'0' || b'9' < b {
             return Number::Malformed;
         }
         n = n * 10 + (b - b'0') as u64;

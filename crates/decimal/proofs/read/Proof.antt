@@ -9,10 +9,13 @@ use Prim.Native.Nat.{ℕ, _-_, _≤_}
 use native.Mathlib.Omega.{arith}
 use lib.ListN.{length}
 use denote.Ref.{now}
+use borrow.Author.Tests.{ltb-true, ltb-false}
 use Rattle.decimal.specs.Reading.{largest, noLeadingZero}
 use Rattle.decimal.proofs.Reading.{empty, leading-zero, one-byte, no-zero, Read, below-digits, above-digits, past-largest, one-more, read-whole}
 use Rattle.decimal.proofs.read.Statement.{statement}
 use Rattle.decimal.proofs.read.Tie as tie
+use Rattle.decimal.proofs.read.Reads as reads
+use Rattle.decimal.proofs.read.Lts as lts
 
 abbrev Inv-loop : tie.InvT-loop
 Inv-loop field n₀ i₀ n i = (noLeadingZero field ≡ true) × Read field n i × (i ≤ length field) × (n ≤ largest)
@@ -27,12 +30,15 @@ shared-slice-read-if2 : tie.Need-shared-slice-read-if2 Inv-loop μ-loop
 shared-slice-read-if2 c = omega arith
 
 returns-2 : tie.Need-returns-2 Inv-loop μ-loop
-returns-2 c = sym (leading-zero (now (c .before .before .before .before .args .field)) (c .before .if2 .taken) (c .if3 .taken))
+returns-2 c = sym (leading-zero (now (c .before .before .before .before .args .field)) (c .before .if2 .taken) (omega (arith, ltb-true)))
 
 loop-holds : tie.Need-loop-holds Inv-loop μ-loop
 loop-holds c =
     let field = now (c .before .before .before .args .field) in (
-      ⊎-elim (λ w. one-byte field (omega arith)) (λ w. no-zero field (omega arith) (w .left)) (c .if2 .came),
+      ⊎-elim
+      (λ w. one-byte field (omega (arith, ltb-false)))
+      (λ w. no-zero field (omega arith) (w .left))
+      (c .if2 .came),
       record { all = refl; value = refl },
       omega arith,
       omega arith,
@@ -41,6 +47,7 @@ loop-holds c =
 shared-slice-read-b : tie.Need-shared-slice-read-b Inv-loop μ-loop
 shared-slice-read-b c = omega arith
 
+-- the field, in a turn
 abbrev F : tie.In-loop Inv-loop μ-loop → List ℕ
 F c = now (c .before .before .before .before .before .args .field)
 
@@ -48,28 +55,25 @@ returns-3 : tie.Need-returns-3 Inv-loop μ-loop
 returns-3 c =
     let turn = c .before .before in
     let at = turn .before .loop in
-    sym (below-digits (F turn) (at .n) (at .i) (at .inv .1) (turn .loop-test .taken) (c .if4 .taken))
-
-returns-4 : tie.Need-returns-4 Inv-loop μ-loop
-returns-4 c =
-    let turn = c .before .before .before in
-    let at = turn .before .loop in
-    sym (above-digits (F turn) (at .n) (at .i) (at .inv .1) (turn .loop-test .taken) (c .if5 .taken))
+    ⊎-elim
+    (λ w. sym (below-digits (F turn) (at .n) (at .i) (at .inv .1) (turn .loop-test .taken) (omega arith)))
+    (λ w. sym (above-digits (F turn) (at .n) (at .i) (at .inv .1) (turn .loop-test .taken) (omega (arith, ltb-true))))
+    (c .if4 .came)
 
 mul-n : tie.Need-mul-n Inv-loop μ-loop
 mul-n c = omega arith
 
 cast-n : tie.Need-cast-n Inv-loop μ-loop
-cast-n c = omega arith
+cast-n c = omega (arith, ltb-false)
 
 add-n : tie.Need-add-n Inv-loop μ-loop
-add-n c = omega arith
+add-n c = omega (arith, ltb-false)
 
-returns-5 : tie.Need-returns-5 Inv-loop μ-loop
-returns-5 c =
+returns-4 : tie.Need-returns-4 Inv-loop μ-loop
+returns-4 c =
     let turn = c .before .before .before .before in
     let at = turn .before .loop in
-    sym (past-largest (F turn) (at .n) (at .i) (at .inv .1) (turn .loop-test .taken) (c .if6 .taken))
+    sym (past-largest (F turn) (at .n) (at .i) (at .inv .1) (turn .loop-test .taken) (omega arith))
 
 add-i : tie.Need-add-i Inv-loop μ-loop
 add-i c = omega arith
@@ -82,16 +86,16 @@ loop-again c =
     let turn = c .before .before .before .before in
     let at = turn .before .loop in (
       at .inv .0,
-      one-more (F turn) (at .n) (at .i) (at .inv .1) (turn .loop-test .taken) (c .before .before .if4 .left) (c .before .if5 .left),
+      one-more (F turn) (at .n) (at .i) (at .inv .1) (turn .loop-test .taken) (omega arith) (omega (arith, ltb-false)),
       omega arith,
       omega arith,
     )
 
-cast-t17 : tie.Need-cast-t17 Inv-loop μ-loop
-cast-t17 c = omega arith
+cast-t20 : tie.Need-cast-t20 Inv-loop μ-loop
+cast-t20 c = omega arith
 
-returns-6 : tie.Need-returns-6 Inv-loop μ-loop
-returns-6 c =
+returns-5 : tie.Need-returns-5 Inv-loop μ-loop
+returns-5 c =
     let at = c .before .loop in
     sym (read-whole (now (c .before .before .before .before .before .args .field)) (at .n) (at .i) (at .inv .1) (c .loop-test .left) (at .inv .0) (at .inv .3))
 
@@ -107,13 +111,12 @@ read-spec =
     loop-holds
     shared-slice-read-b
     returns-3
-    returns-4
     mul-n
     cast-n
     add-n
-    returns-5
+    returns-4
     add-i
     loop-less
     loop-again
-    cast-t17
-    returns-6)
+    cast-t20
+    returns-5)
