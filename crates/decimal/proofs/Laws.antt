@@ -1,5 +1,5 @@
--- What a caller knows of numbers, by `spelling` and `reads` alone: a spelling is 1 to 10 digits, and printing and reading undo each
--- other.
+-- What a caller knows of numbers, by `spelling`, `shown`, `printed` and `reads` alone: a spelling is 1 to 10 digits, a scratch of 10
+-- bytes shows it, and printing and reading undo each other.
 -- Assumes nothing.
 use mathlib.Core.Path.{_≡_, refl, sym, _∙_, ap}
 use mathlib.Core.Bool.{true, not, false≢true}
@@ -7,10 +7,10 @@ use mathlib.Core.List.{List, [], _∷_, _++_, append-nil, append-assoc}
 use Prim.Native.Nat.{ℕ, zero, suc, _+_, _-_, _*_, _/_, _%_, _^_, _≤_, _<_}
 use native.Mathlib.Omega.{arith}
 use lib.Dec.{eqb}
-use lib.ListN.{length, getD}
+use lib.ListN.{length, getD, drop}
 use borrow.Author.Tests.{eqb-false, not-true}
 use Rattle.decimal.specs.declared.Number.the-variants.{Value}
-use Rattle.decimal.specs.Spelling.{glyph, spelling}
+use Rattle.decimal.specs.Spelling.{glyph, spelling, shown, printed}
 use Rattle.decimal.specs.Reading.{largest, allDigits, noLeadingZero, valueAfter, reads}
 use Rattle.decimal.proofs.Spelling
 use Rattle.decimal.proofs.Spelling.{spelling-one, spelling-more, spelling-digits, spelling-value, spelling-leads}
@@ -28,6 +28,22 @@ digit-at (b ∷ bs) e (suc i) h = digit-at bs (digits e .rest) i (omega arith)
 
 pub spelling-digit : (n i : ℕ) → i < length (spelling n) → (48 ≤ getD (spelling n) i 0) × (getD (spelling n) i 0 ≤ 57)
 spelling-digit n i h = digit-at (spelling n) (spelling-digits n) i h
+
+-- ---- a scratch of 10 bytes shows a number's spelling, and a shorter one keeps its bytes
+
+pub shown-whole : (n : ℕ) (scratch : List ℕ) → 10 ≤ length scratch → shown n scratch ≡ spelling n
+shown-whole = Spelling.shown-whole
+
+pub shown-short : (n : ℕ) (scratch : List ℕ) → length scratch < 10 → shown n scratch ≡ []
+shown-short = Spelling.shown-short
+
+pub printed-whole : (n : ℕ) (scratch : List ℕ) → 10 ≤ length scratch → printed n scratch ≡ spelling n ++ drop (length (spelling n)) scratch
+unfolding printed
+printed-whole n scratch h = rw (shown-whole n scratch h)
+
+pub printed-short : (n : ℕ) (scratch : List ℕ) → length scratch < 10 → printed n scratch ≡ scratch
+unfolding printed
+printed-short n scratch h = rw (shown-short n scratch h)
 
 -- ---- a spelling reads as its number
 

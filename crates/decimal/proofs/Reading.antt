@@ -9,7 +9,7 @@ use native.Mathlib.Omega.{arith}
 use lib.Dec.{leb}
 use lib.ListN.{length, getD, drop, drop-of-length-le}
 use lib.Seq.{drop-cons}
-use borrow.Author.Tests.{le-leb, lt-leb, leb-true, eq-eqb, ne-eqb}
+use borrow.Author.Tests.{le-leb, lt-leb, leb-true}
 use Rattle.decimal.specs.declared.Number.the-variants.{Value, Malformed}
 use Rattle.decimal.specs.Reading.{largest, allDigits, noLeadingZero, valueAfter, isNumber, reads}
 
@@ -44,7 +44,7 @@ no-digits : (field : List ℕ) → allDigits field ≡ false → reads field ≡
 unfolding reads isNumber
 no-digits field e = rw e
 
-no-front : (field : List ℕ) → noLeadingZero field ≡ false → reads field ≡ Malformed
+pub no-front : (field : List ℕ) → noLeadingZero field ≡ false → reads field ≡ Malformed
 unfolding reads isNumber
 no-front field e = rw (e, and-false)
 
@@ -74,31 +74,6 @@ reads-as field n e =
     let k = and-eq-true-iff (allDigits field && noLeadingZero field) (leb (valueAfter 0 field) largest) .0 (v .0) in
     let d = and-eq-true-iff (allDigits field) (noLeadingZero field) .0 (k .0) in
     record { all = d .0; fronted = d .1; small = omega (arith, leb-true (valueAfter 0 field) largest (k .1), v .1); value = v .1 }
-
--- ---- the front of a field
-
-pub empty : (field : List ℕ) → length field ≡ 0 → reads field ≡ Malformed
-unfolding noLeadingZero
-empty [] e = no-front [] refl
-empty (b ∷ bs) e = absurd (omega arith)
-
-pub leading-zero : (field : List ℕ) → getD field 0 0 ≡ 48 → 1 < length field → reads field ≡ Malformed
-unfolding noLeadingZero
-leading-zero [] e h = absurd (omega arith)
-leading-zero (b ∷ []) e h = absurd (omega arith)
-leading-zero (b ∷ c ∷ bs) e h = no-front (b ∷ c ∷ bs) (rw (eq-eqb b 48 e))
-
-pub one-byte : (field : List ℕ) → length field ≡ 1 → noLeadingZero field ≡ true
-unfolding noLeadingZero
-one-byte [] e = absurd (omega arith)
-one-byte (b ∷ []) e = refl
-one-byte (b ∷ c ∷ bs) e = absurd (omega arith)
-
-pub no-zero : (field : List ℕ) → 1 ≤ length field → (getD field 0 0 ≡ 48 → ⊥) → noLeadingZero field ≡ true
-unfolding noLeadingZero
-no-zero [] h z = absurd (omega arith)
-no-zero (b ∷ []) h z = refl
-no-zero (b ∷ c ∷ bs) h z = rw (ne-eqb b 48 z)
 
 -- ---- byte by byte: the bytes before i are digits that stand for n
 
@@ -133,9 +108,9 @@ module _ (field : List ℕ) (n i : ℕ) (so-far : Read field n i) (h : i < lengt
   pub one-more : 48 ≤ getD field i 0 → getD field i 0 ≤ 57 → Read field (n * 10 + (getD field i 0 - 48)) (i + 1)
   unfolding allDigits
   one-more l u = record {
-      all = sym (all-rest ∙ rw (le-leb 48 (getD field i 0) l, le-leb (getD field i 0) 57 u));
-      value = sym value-rest;
-    }
+    all = sym (all-rest ∙ rw (le-leb 48 (getD field i 0) l, le-leb (getD field i 0) 57 u));
+    value = sym value-rest;
+  }
 
 pub read-whole : (field : List ℕ) (n i : ℕ) → Read field n i → length field ≤ i → noLeadingZero field ≡ true → n ≤ largest → reads field ≡ Value n
 unfolding allDigits valueAfter

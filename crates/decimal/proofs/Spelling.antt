@@ -34,10 +34,10 @@ wider (suc places) n h =
     dite (decLt n 10)
     (λ l. in-one (suc (suc places)) n l ∙ sym (in-one (suc places) n l))
     (λ l.
-      let m : 10 ≤ n = omega arith in
-      in-more (suc (suc places)) n m
-          ∙ ap (λ (ds : List ℕ). ds ++ (glyph (n % 10) ∷ [])) (wider places (n / 10) (tenth (suc places) n h))
-          ∙ sym (in-more (suc places) n m))
+    let m : 10 ≤ n = omega arith in
+    in-more (suc (suc places)) n m
+    ∙ ap (λ (ds : List ℕ). ds ++ (glyph (n % 10) ∷ [])) (wider places (n / 10) (tenth (suc places) n h))
+    ∙ sym (in-more (suc places) n m))
 
 pub spelling-one : (n : ℕ) → n < 10 → spelling n ≡ glyph n ∷ []
 unfolding spelling
@@ -62,11 +62,11 @@ length-in (suc places) n =
 pub spelling-length : (n : ℕ) → (1 ≤ length (spelling n)) × (length (spelling n) ≤ 10)
 unfolding spelling
 spelling-length n = (
-    dite (decLt n 10)
-    (λ l. rw (in-one 9 n l) (omega arith))
-    (λ l. let m : 10 ≤ n = omega arith in rw (in-more 9 n m, length-append) (omega arith)),
-    length-in 10 n,
-  )
+  dite (decLt n 10)
+      (λ l. rw (in-one 9 n l) (omega arith))
+      (λ l. let m : 10 ≤ n = omega arith in rw (in-more 9 n m, length-append) (omega arith)),
+  length-in 10 n,
+)
 
 -- its bytes are digits
 digits-snoc : (ds : List ℕ) (d : ℕ) → allDigits ds ≡ true → d < 10 → allDigits (ds ++ (glyph d ∷ [])) ≡ true
@@ -83,8 +83,8 @@ digits-in (suc places) n =
     dite (decLt n 10)
     (λ l. rw (in-one places n l) (digits-snoc [] n refl l))
     (λ l.
-      let m : 10 ≤ n = omega arith in
-      rw (in-more places n m) (digits-snoc (spellingIn places (n / 10)) (n % 10) (digits-in places (n / 10)) (omega arith)))
+    let m : 10 ≤ n = omega arith in
+    rw (in-more places n m) (digits-snoc (spellingIn places (n / 10)) (n % 10) (digits-in places (n / 10)) (omega arith)))
 
 pub spelling-digits : (n : ℕ) → allDigits (spelling n) ≡ true
 unfolding spelling
@@ -103,8 +103,8 @@ value-in (suc places) n h =
     dite (decLt n 10)
     (λ l. rw (in-one places n l) (value-snoc 0 [] n ∙ omega arith))
     (λ l.
-      let m : 10 ≤ n = omega arith in
-      rw (in-more places n m, value-snoc, value-in places (n / 10) (tenth places n h)) (div-add-mod' n 10))
+    let m : 10 ≤ n = omega arith in
+    rw (in-more places n m, value-snoc, value-in places (n / 10) (tenth places n h)) (div-add-mod' n 10))
 
 pub spelling-value : (n : ℕ) → n < 10 ^ 10 → valueAfter 0 (spelling n) ≡ n
 unfolding spelling
@@ -122,9 +122,9 @@ front-in (suc places) n p h =
     dite (decLt n 10)
     (λ l. rw (in-one places n l) (omega arith))
     (λ l.
-      let m : 10 ≤ n = omega arith in
-      rw (in-more places n m)
-      (front (spellingIn places (n / 10)) (glyph (n % 10) ∷ []) (front-in places (n / 10) (omega arith) (tenth places n h))))
+    let m : 10 ≤ n = omega arith in
+    rw (in-more places n m)
+    (front (spellingIn places (n / 10)) (glyph (n % 10) ∷ []) (front-in places (n / 10) (omega arith) (tenth places n h))))
 
 leads : (ds : List ℕ) → 48 < getD ds 0 0 → noLeadingZero ds ≡ true
 unfolding noLeadingZero

@@ -8,7 +8,7 @@ ghost use mathlib.Core.List.{_++_};
 ghost use lib.ListN.{length, drop};
 ghost use denote.Ref.{ptr};
 ghost use Rattle.decimal.specs.Spelling.{spelling, shown, printed};
-ghost use Rattle.decimal.specs.Reading.{reads};
+ghost use Rattle.decimal.specs.Reading.{noLeadingZero, reads};
 
 // What a field reads as.
 pub enum Number {
@@ -22,10 +22,7 @@ const LARGEST: u64 = 4_294_967_295;
 pub fn read(field: &[u8]) -> Number
     ensures { λ r. ⌜ r ≡ reads (now (field .entry)) ⌝ }
 {
-    if field.len() == 0 {
-        return Number::Malformed;
-    }
-    if field[0] == b'0' && 1 < field.len() {
+    if !no_leading_zero(field) {
         return Number::Malformed;
     }
     let mut n: u64 = 0;
@@ -42,6 +39,19 @@ pub fn read(field: &[u8]) -> Number
         i += 1;
     }
     Number::Value(n as u32)
+}
+
+// Whether a field has a first byte and no leading zero.
+fn no_leading_zero(field: &[u8]) -> bool
+    ensures { λ r. ⌜ r ≡ noLeadingZero (now (field .entry)) ⌝ }
+{
+    if field.len() == 0 {
+        return false;
+    }
+    if field.len() == 1 {
+        return true;
+    }
+    field[0] != b'0'
 }
 
 // Prints n into the scratch, and answers with its digits: the first part of the scratch. A scratch

@@ -25,7 +25,7 @@ append-cons ds d s = append-assoc ds (d ∷ []) s
 abbrev Inv-loop : tie.InvT-loop
 Inv-loop n k scratch₀ rest₀ i₀ scratch rest i =
     (length (spelling rest) ≡ i + 1) × (spelling rest ++ drop (i + 1) scratch ≡ spelling n ++ drop k scratch₀)
-        × (length scratch ≡ length scratch₀) × (i < length scratch) × (rest ≤ n)
+    × (length scratch ≡ length scratch₀) × (i < length scratch) × (rest ≤ n)
 
 abbrev μ-loop : tie.MeasureT-loop
 μ-loop n k scratch₀ rest₀ i₀ scratch rest i = rest
@@ -58,16 +58,15 @@ loop-less c = omega arith
 loop-again : tie.Need-loop-again Inv-loop μ-loop
 loop-again c =
     let at = c .before .loop in
-    let s = at .scratch in
-    let i = at .i in
     let rest = at .rest in
+    let within : at .i < length (at .scratch) = at .inv .3 in
     let more = spelling-more rest (omega arith) (omega arith) in
     let longer = spelling-longer rest (omega arith) (omega arith) in
     let some = spelling-length (rest / 10) in
-    let last : i - 1 + 1 ≡ i = omega arith in (
+    let last : at .i - 1 + 1 ≡ at .i = omega arith in (
       omega arith,
-      rw (last, dropped s i (48 + rest % 10) (at .inv .3), ← append-cons, ← more) (at .inv .1),
-      length-set s i (48 + rest % 10) ∙ at .inv .2,
+      rw (last, dropped) (rw (more, append-cons) at (at .inv .1)),
+      simp length-set (at .inv .2),
       simp length-set (omega arith),
       omega arith,
     )

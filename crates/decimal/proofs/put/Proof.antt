@@ -13,7 +13,7 @@ returns : tie.Need-returns
 unfolding printed
 returns c =
     let start = c .before .before in
-    let none = shown-short (start .args .n) (now (start .args .scratch)) (c .if1 .taken) in
+    let none = shown-short (start .args .n) (now (start .args .scratch)) (omega arith) in
     (rw none, rw none)
 
 places-requires : tie.Need-places-requires
@@ -31,7 +31,7 @@ returns-2 c =
     let filled = c .before .before .fill in
     let counted = c .before .before .before .before .places in
     let start = c .before .before .before .before .before .before .before in
-    let whole = shown-whole (start .args .n) (now (start .args .scratch)) (c .before .before .before .before .before .if1 .left) in
+    let whole = shown-whole (start .args .n) (now (start .args .scratch)) (omega arith) in
     (rw whole (counted .ensures), rw (whole, ← counted .ensures) (filled .ensures))
 
 pub put-spec : {M : Type 1} → statement M

@@ -1,7 +1,7 @@
 -- `decimal::read` meets its contract. The loop's invariant: the field has no leading zero, and its bytes before `i` are digits that stand
 -- for `n`. The measure is what is left of the field.
 -- Assumes nothing.
-use mathlib.Core.Path.{_≡_, refl, sym}
+use mathlib.Core.Path.{_≡_, refl, sym, _∙_}
 use mathlib.Core.Logic.{⊎-elim}
 use mathlib.Core.Bool.{true}
 use mathlib.Core.List.{List}
@@ -9,9 +9,10 @@ use Prim.Native.Nat.{ℕ, _-_, _≤_}
 use native.Mathlib.Omega.{arith}
 use lib.ListN.{length}
 use denote.Ref.{now}
-use borrow.Author.Tests.{ltb-true, ltb-false}
+use borrow.Author.Needs.{needs}
+use borrow.Author.Tests.{ltb-true, ltb-false, not-true, not-false}
 use Rattle.decimal.specs.Reading.{largest, noLeadingZero}
-use Rattle.decimal.proofs.Reading.{empty, leading-zero, one-byte, no-zero, Read, below-digits, above-digits, past-largest, one-more, read-whole}
+use Rattle.decimal.proofs.Reading.{no-front, Read, below-digits, above-digits, past-largest, one-more, read-whole}
 use Rattle.decimal.proofs.read.Statement.{statement}
 use Rattle.decimal.proofs.read.Tie as tie
 use Rattle.decimal.proofs.read.Reads as reads
@@ -23,26 +24,18 @@ Inv-loop field n₀ i₀ n i = (noLeadingZero field ≡ true) × Read field n i 
 abbrev μ-loop : tie.MeasureT-loop
 μ-loop field n₀ i₀ n i = length field - i
 
+no-leading-zero-requires : tie.Need-no-leading-zero-requires Inv-loop μ-loop
+no-leading-zero-requires c κs = search needs
+
 returns : tie.Need-returns Inv-loop μ-loop
-returns c = sym (empty (now (c .before .args .field)) (c .if1 .taken))
-
-shared-slice-read-if2 : tie.Need-shared-slice-read-if2 Inv-loop μ-loop
-shared-slice-read-if2 c = omega arith
-
-returns-2 : tie.Need-returns-2 Inv-loop μ-loop
-returns-2 c = sym (leading-zero (now (c .before .before .before .before .args .field)) (c .before .if2 .taken) (omega (arith, ltb-true)))
+returns c =
+    let front = c .before .no-leading-zero in
+    sym (no-front (now (c .before .before .before .args .field)) (sym (front .ensures) ∙ not-true (front .result) (c .if1 .taken)))
 
 loop-holds : tie.Need-loop-holds Inv-loop μ-loop
 loop-holds c =
-    let field = now (c .before .before .before .args .field) in (
-      ⊎-elim
-      (λ w. one-byte field (omega (arith, ltb-false)))
-      (λ w. no-zero field (omega arith) (w .left))
-      (c .if2 .came),
-      record { all = refl; value = refl },
-      omega arith,
-      omega arith,
-    )
+    let front = c .before .no-leading-zero in
+    (sym (front .ensures) ∙ not-false (front .result) (c .if1 .left), record { all = refl; value = refl }, omega arith, omega arith)
 
 shared-slice-read-b : tie.Need-shared-slice-read-b Inv-loop μ-loop
 shared-slice-read-b c = omega arith
@@ -51,14 +44,14 @@ shared-slice-read-b c = omega arith
 abbrev F : tie.In-loop Inv-loop μ-loop → List ℕ
 F c = now (c .before .before .before .before .before .args .field)
 
-returns-3 : tie.Need-returns-3 Inv-loop μ-loop
-returns-3 c =
+returns-2 : tie.Need-returns-2 Inv-loop μ-loop
+returns-2 c =
     let turn = c .before .before in
     let at = turn .before .loop in
     ⊎-elim
     (λ w. sym (below-digits (F turn) (at .n) (at .i) (at .inv .1) (turn .loop-test .taken) (omega arith)))
     (λ w. sym (above-digits (F turn) (at .n) (at .i) (at .inv .1) (turn .loop-test .taken) (omega (arith, ltb-true))))
-    (c .if4 .came)
+    (c .if2 .came)
 
 mul-n : tie.Need-mul-n Inv-loop μ-loop
 mul-n c = omega arith
@@ -69,8 +62,8 @@ cast-n c = omega (arith, ltb-false)
 add-n : tie.Need-add-n Inv-loop μ-loop
 add-n c = omega (arith, ltb-false)
 
-returns-4 : tie.Need-returns-4 Inv-loop μ-loop
-returns-4 c =
+returns-3 : tie.Need-returns-3 Inv-loop μ-loop
+returns-3 c =
     let turn = c .before .before .before .before in
     let at = turn .before .loop in
     sym (past-largest (F turn) (at .n) (at .i) (at .inv .1) (turn .loop-test .taken) (omega arith))
@@ -91,11 +84,11 @@ loop-again c =
       omega arith,
     )
 
-cast-t20 : tie.Need-cast-t20 Inv-loop μ-loop
-cast-t20 c = omega arith
+cast-t15 : tie.Need-cast-t15 Inv-loop μ-loop
+cast-t15 c = omega arith
 
-returns-5 : tie.Need-returns-5 Inv-loop μ-loop
-returns-5 c =
+returns-4 : tie.Need-returns-4 Inv-loop μ-loop
+returns-4 c =
     let at = c .before .loop in
     sym (read-whole (now (c .before .before .before .before .before .args .field)) (at .n) (at .i) (at .inv .1) (c .loop-test .left) (at .inv .0) (at .inv .3))
 
@@ -105,18 +98,17 @@ read-spec =
     (tie.spec
     Inv-loop
     μ-loop
+    no-leading-zero-requires
     returns
-    shared-slice-read-if2
-    returns-2
     loop-holds
     shared-slice-read-b
-    returns-3
+    returns-2
     mul-n
     cast-n
     add-n
-    returns-4
+    returns-3
     add-i
     loop-less
     loop-again
-    cast-t20
-    returns-5)
+    cast-t15
+    returns-4)
