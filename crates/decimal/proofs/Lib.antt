@@ -1,3 +1,4 @@
 mod Spelling
 mod Reading
+mod Examples
 pub mod Laws

@@ -1,4 +1,4 @@
--- What decides how a field reads: its first byte, its digits one by one, and the number that they come to.
+-- What decides how a field reads: three tests, its digits one by one, and the number that they come to.
 -- Assumes nothing.
 use mathlib.Core.Path.{_≡_, refl, sym, _∙_, ap}
 use mathlib.Core.Bool.{Bool, true, false, cond, _&&_, and-eq-true-iff}
@@ -77,11 +77,11 @@ reads-as field n e =
 
 -- ---- byte by byte: the bytes before i are digits that stand for n
 
-pub record Read (field : List ℕ) (n i : ℕ) : Type 0 where
+pub record ReadTo (field : List ℕ) (n i : ℕ) : Type 0 where
   pub all : allDigits (drop i field) ≡ allDigits field
   pub value : valueAfter n (drop i field) ≡ valueAfter 0 field
 
-module _ (field : List ℕ) (n i : ℕ) (so-far : Read field n i) (h : i < length field) where
+module _ (field : List ℕ) (n i : ℕ) (so-far : ReadTo field n i) (h : i < length field) where
   rest : drop i field ≡ getD field i 0 ∷ drop (i + 1) field
   rest = rw (add-one, drop-cons field i 0)
 
@@ -105,14 +105,14 @@ module _ (field : List ℕ) (n i : ℕ) (so-far : Read field n i) (h : i < lengt
       let m : ℕ = n * 10 + (getD field i 0 - 48) in
       too-large field (omega (arith, value-rest, value-grows m (drop (i + 1) field)))
 
-  pub one-more : 48 ≤ getD field i 0 → getD field i 0 ≤ 57 → Read field (n * 10 + (getD field i 0 - 48)) (i + 1)
+  pub one-more : 48 ≤ getD field i 0 → getD field i 0 ≤ 57 → ReadTo field (n * 10 + (getD field i 0 - 48)) (i + 1)
   unfolding allDigits
   one-more l u = record {
     all = sym (all-rest ∙ rw (le-leb 48 (getD field i 0) l, le-leb (getD field i 0) 57 u));
     value = sym value-rest;
   }
 
-pub read-whole : (field : List ℕ) (n i : ℕ) → Read field n i → length field ≤ i → noLeadingZero field ≡ true → n ≤ largest → reads field ≡ Value n
+pub read-whole : (field : List ℕ) (n i : ℕ) → ReadTo field n i → length field ≤ i → noLeadingZero field ≡ true → n ≤ largest → reads field ≡ Value n
 unfolding allDigits valueAfter
 read-whole field n i so-far end front small =
     let none = drop-of-length-le field end in

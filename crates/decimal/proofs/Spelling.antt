@@ -5,7 +5,7 @@ use mathlib.Core.Logic.{dite}
 use mathlib.Core.Bool.{true, _&&_, and-eq-true-iff}
 use mathlib.Core.List.{List, [], _∷_, _++_}
 use Prim.Native.Nat.{ℕ, zero, suc, _+_, _-_, _*_, _/_, _%_, _^_, _≤_, _<_}
-use native.Mathlib.Nat.{pow-suc, div-lt-iff-lt-mul, div-add-mod', mod-lt}
+use native.Mathlib.Nat.{pow-suc, div-lt-iff-lt-mul, div-add-mod'}
 use native.Mathlib.Decide.{decLt}
 use native.Mathlib.Omega.{arith}
 use lib.Dec.{leb, lit<}
@@ -147,6 +147,6 @@ pub shown-whole : (n : ℕ) (scratch : List ℕ) → 10 ≤ length scratch → s
 unfolding shown
 shown-whole n scratch h = rw (le-ltb (length scratch) 10 h)
 
-pub printed-part : (n : ℕ) (scratch : List ℕ) (k : ℕ) → k ≡ length (shown n scratch) → take k (printed n scratch) ≡ shown n scratch
+pub printed-part : (n k : ℕ) (scratch after : List ℕ) → k ≡ length (shown n scratch) → after ≡ printed n scratch → take k after ≡ shown n scratch
 unfolding printed
-printed-part n scratch k e = take-at (shown n scratch) (drop (length (shown n scratch)) scratch) k (sym e)
+printed-part n k scratch after count bytes = rw bytes (take-at (shown n scratch) (drop (length (shown n scratch)) scratch) k (sym count))

@@ -1,7 +1,7 @@
-// Numbers in decimal: at most 4,294,967,295, in ASCII digits, with no leading zeros.
+// Numbers in decimal: ASCII digits with no leading zeros, at most 4,294,967,295.
 //
-// The contracts cite `specs/`: `spelling n` is the one way to write n, and `reads field` the number
-// that a field is, if it is one. `proofs/Laws.antt` has what a caller knows of the two.
+// The contracts cite `specs/`: `spelling n` is how n is written, and `reads field` what a field reads
+// as. `proofs/Laws.antt` has what a caller knows of them. The public functions require nothing.
 ghost use mathlib.Core.Path.{_≡_};
 ghost use Prim.Native.Nat.{_≤_};
 ghost use mathlib.Core.List.{_++_};
@@ -16,9 +16,10 @@ pub enum Number {
     Malformed,
 }
 
+// The largest number. As a u64, a number and one digit more do not wrap.
 const LARGEST: u64 = 4_294_967_295;
 
-// Reads a whole field.
+// Reads a whole field, and answers with the number that it is, or that it is malformed.
 pub fn read(field: &[u8]) -> Number
     ensures { λ r. ⌜ r ≡ reads (now (field .entry)) ⌝ }
 {
@@ -54,10 +55,15 @@ fn no_leading_zero(field: &[u8]) -> bool
     field[0] != b'0'
 }
 
-// Prints n into the scratch, and answers with its digits: the first part of the scratch. A scratch
-// under 10 bytes keeps its bytes, and the part is empty.
+// Prints n into the scratch, and answers with its digits, the first part of the scratch: they begin
+// where the scratch does. A scratch under 10 bytes keeps its bytes, and the part is empty.
+//
+// The scratch is lent for as long as the part is in use, and no clause here can speak of it. That the
+// bytes after the part keep what they held is in the contract of `put`, which does all the writing. A
+// caller that reads its scratch afterwards calls `put`.
 pub fn print(n: u32, scratch: &mut [u8]) -> &mut [u8]
-    ensures { λ r. ⌜ (now r ≡ shown n (now (scratch .entry))) × (ptr r ≡ ptr (scratch .entry)) ⌝ }
+    ensures digits { λ r. ⌜ now r ≡ shown n (now (scratch .entry)) ⌝ }
+    ensures first { λ r. ⌜ ptr r ≡ ptr (scratch .entry) ⌝ }
 {
     let k = put(n, scratch);
     &mut scratch[..k]
@@ -66,7 +72,8 @@ pub fn print(n: u32, scratch: &mut [u8]) -> &mut [u8]
 // Puts n's digits over the first bytes of the scratch, and answers how many there are. The bytes
 // after them keep what they held. A scratch under 10 bytes keeps its bytes, and the answer is 0.
 pub fn put(n: u32, scratch: &mut [u8]) -> usize
-    ensures { λ r. ⌜ (r ≡ length (shown n (now (scratch .entry)))) × (now (scratch .exit) ≡ printed n (now (scratch .entry))) ⌝ }
+    ensures count { λ r. ⌜ r ≡ length (shown n (now (scratch .entry))) ⌝ }
+    ensures bytes { λ _. ⌜ now (scratch .exit) ≡ printed n (now (scratch .entry)) ⌝ }
 {
     if scratch.len() < 10 {
         return 0;

@@ -1,9 +1,9 @@
--- `decimal::fill` meets its contract. The loop's invariant: the rest's digits end at `i`, and in front of the bytes after `i` they make what
--- is asked. The measure is the rest.
+-- `decimal::fill` meets its contract. The loop's invariant: the spelling of the rest ends at `i`, and with the bytes after `i` behind it it
+-- makes what is asked. The measure is the rest.
 -- Assumes nothing.
 use mathlib.Core.Path.{_≡_, refl, sym, ap, _∙_}
 use mathlib.Core.List.{List, [], _∷_, _++_, append-assoc}
-use Prim.Native.Nat.{ℕ, suc, _+_, _-_, _/_, _%_, _^_, _≤_, _<_}
+use Prim.Native.Nat.{ℕ, suc, _+_, _-_, _/_, _≤_, _<_}
 use native.Mathlib.Omega.{arith}
 use lib.ListN.{length, take, drop, set, length-set}
 use lib.Seq.{length-take-le, set-split, drop-at}

@@ -12,14 +12,12 @@ use denote.Ref.{now}
 use borrow.Author.Needs.{needs}
 use borrow.Author.Tests.{ltb-true, ltb-false, not-true, not-false}
 use Rattle.decimal.specs.Reading.{largest, noLeadingZero}
-use Rattle.decimal.proofs.Reading.{no-front, Read, below-digits, above-digits, past-largest, one-more, read-whole}
+use Rattle.decimal.proofs.Reading.{no-front, ReadTo, below-digits, above-digits, past-largest, one-more, read-whole}
 use Rattle.decimal.proofs.read.Statement.{statement}
 use Rattle.decimal.proofs.read.Tie as tie
-use Rattle.decimal.proofs.read.Reads as reads
-use Rattle.decimal.proofs.read.Lts as lts
 
 abbrev Inv-loop : tie.InvT-loop
-Inv-loop field n₀ i₀ n i = (noLeadingZero field ≡ true) × Read field n i × (i ≤ length field) × (n ≤ largest)
+Inv-loop field n₀ i₀ n i = (noLeadingZero field ≡ true) × ReadTo field n i × (i ≤ length field) × (n ≤ largest)
 
 abbrev μ-loop : tie.MeasureT-loop
 μ-loop field n₀ i₀ n i = length field - i
