@@ -7,19 +7,30 @@ use mathlib.Core.List.{List, [], _∷_, _++_, append-nil, append-assoc}
 use Prim.Native.Nat.{ℕ, zero, suc, _+_, _-_, _*_, _/_, _%_, _^_, _≤_, _<_}
 use native.Mathlib.Omega.{arith}
 use lib.Dec.{eqb}
-use lib.ListN.{length, getD, drop}
-use borrow.Author.Tests.{eqb-false, not-true}
+use lib.ListN.{length, getD, drop, length-append}
+use borrow.Author.Tests.{lt-ltb, le-ltb, eqb-false, not-true}
 use Rattle.decimal.specs.declared.Number.the-variants.{Value}
-use Rattle.decimal.specs.Spelling.{glyph, spelling, shown, printed}
+use Rattle.decimal.specs.Spelling.{glyph, spellingIn, spelling, shown, printed}
 use Rattle.decimal.specs.Reading.{largest, allDigits, noLeadingZero, valueAfter, reads}
-use Rattle.decimal.proofs.Spelling
-use Rattle.decimal.proofs.Spelling.{spelling-one, spelling-more, spelling-digits, spelling-value, spelling-leads}
+use Rattle.decimal.proofs.Spelling.{by-digits, in-one, in-more, spelling-one, spelling-more, spelling-digits, spelling-value, spelling-leads}
 use Rattle.decimal.proofs.Reading.{digits, value-grows, a-number, reads-as}
 
 -- ---- a spelling is 1 to 10 digits
 
+length-in : (places n : ℕ) → length (spellingIn places n) ≤ places
+unfolding spellingIn
+length-in zero n = omega arith
+length-in (suc places) n =
+    by-digits n
+    (λ l. rw (in-one places n l) (omega arith))
+    (λ m. rw (in-more places n m, length-append) (omega (arith, length-in places (n / 10))))
+
 pub spelling-length : (n : ℕ) → (1 ≤ length (spelling n)) × (length (spelling n) ≤ 10)
-spelling-length = Spelling.spelling-length
+unfolding spelling
+spelling-length n = (
+  by-digits n (λ l. rw (in-one 9 n l) (omega arith)) (λ m. rw (in-more 9 n m, length-append) (omega arith)),
+  length-in 10 n,
+)
 
 digit-at : (bs : List ℕ) → allDigits bs ≡ true → (i : ℕ) → i < length bs → (48 ≤ getD bs i 0) × (getD bs i 0 ≤ 57)
 digit-at [] e i h = absurd (omega arith)
@@ -32,10 +43,12 @@ spelling-digit n i h = digit-at (spelling n) (spelling-digits n) i h
 -- ---- a scratch of 10 bytes shows a number's spelling, and a shorter one keeps its bytes
 
 pub shown-whole : (n : ℕ) (scratch : List ℕ) → 10 ≤ length scratch → shown n scratch ≡ spelling n
-shown-whole = Spelling.shown-whole
+unfolding shown
+shown-whole n scratch h = rw (le-ltb (length scratch) 10 h)
 
 pub shown-short : (n : ℕ) (scratch : List ℕ) → length scratch < 10 → shown n scratch ≡ []
-shown-short = Spelling.shown-short
+unfolding shown
+shown-short n scratch h = rw (lt-ltb (length scratch) 10 h)
 
 pub printed-whole : (n : ℕ) (scratch : List ℕ) → 10 ≤ length scratch → printed n scratch ≡ spelling n ++ drop (length (spelling n)) scratch
 unfolding printed

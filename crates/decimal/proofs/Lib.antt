@@ -1,4 +1,4 @@
-mod Spelling
 mod Reading
-mod Examples
+mod Spelling
 pub mod Laws
+mod Examples

@@ -28,6 +28,10 @@ digits {b} {bs} e =
     let d = and-eq-true-iff (leb 48 b) (leb b 57) .0 (k .0) in
     record { low = leb-true 48 b (d .0); high = leb-true b 57 (d .1); rest = k .1 }
 
+pub past-digit : (b : ℕ) (bs : List ℕ) → 48 ≤ b → b ≤ 57 → allDigits (b ∷ bs) ≡ allDigits bs
+unfolding allDigits
+past-digit b bs l h = rw (le-leb 48 b l, le-leb b 57 h)
+
 -- digits after those of n come to no less than n
 pub value-grows : (n : ℕ) (bs : List ℕ) → n ≤ valueAfter n bs
 unfolding valueAfter
@@ -106,9 +110,8 @@ module _ (field : List ℕ) (n i : ℕ) (so-far : ReadTo field n i) (h : i < len
       too-large field (omega (arith, value-rest, value-grows m (drop (i + 1) field)))
 
   pub one-more : 48 ≤ getD field i 0 → getD field i 0 ≤ 57 → ReadTo field (n * 10 + (getD field i 0 - 48)) (i + 1)
-  unfolding allDigits
   one-more l u = record {
-    all = sym (all-rest ∙ rw (le-leb 48 (getD field i 0) l, le-leb (getD field i 0) 57 u));
+    all = sym (all-rest ∙ past-digit (getD field i 0) (drop (i + 1) field) l u);
     value = sym value-rest;
   }
 

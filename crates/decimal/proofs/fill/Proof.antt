@@ -9,7 +9,8 @@ use lib.ListN.{length, take, drop, set, length-set}
 use lib.Seq.{length-take-le, set-split, drop-at}
 use native.Mathlib.Numerals.{add-one}
 use Rattle.decimal.specs.Spelling.{spelling}
-use Rattle.decimal.proofs.Spelling.{spelling-one, spelling-more, spelling-longer, spelling-length}
+use Rattle.decimal.proofs.Spelling.{spelling-one, spelling-more, spelling-longer}
+use Rattle.decimal.proofs.Laws.{spelling-length}
 use Rattle.decimal.proofs.fill.Statement.{statement}
 use Rattle.decimal.proofs.fill.Tie as tie
 

@@ -6,7 +6,8 @@ use Prim.Native.Nat.{_+_, _≤_}
 use native.Mathlib.Omega.{arith}
 use lib.ListN.{length}
 use Rattle.decimal.specs.Spelling.{spelling}
-use Rattle.decimal.proofs.Spelling.{spelling-one, spelling-longer, spelling-length}
+use Rattle.decimal.proofs.Spelling.{spelling-one, spelling-longer}
+use Rattle.decimal.proofs.Laws.{spelling-length}
 use Rattle.decimal.proofs.places.Statement.{statement}
 use Rattle.decimal.proofs.places.Tie as tie
 

@@ -5,7 +5,7 @@ use native.Mathlib.Omega.{arith}
 use borrow.Author.Needs.{needs}
 use denote.Ref.{now}
 use Rattle.decimal.specs.Spelling.{printed}
-use Rattle.decimal.proofs.Spelling.{spelling-length, shown-short, shown-whole}
+use Rattle.decimal.proofs.Laws.{spelling-length, shown-short, shown-whole}
 use Rattle.decimal.proofs.put.Statement.{statement}
 use Rattle.decimal.proofs.put.Tie as tie
 
