@@ -27,7 +27,7 @@ unfoldable pub valueAfter : ℕ → List ℕ → ℕ
 valueAfter n [] = n
 valueAfter n (b ∷ bs) = valueAfter (n * 10 + (b - 48)) bs
 
--- whether a field is a number: digits with no leading zero, and at most the largest number
+-- whether a field is a number: digits with no leading zero that stand for at most the largest
 unfoldable pub isNumber : List ℕ → Bool
 isNumber field = (allDigits field && noLeadingZero field) && leb (valueAfter 0 field) largest
 

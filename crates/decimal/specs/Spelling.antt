@@ -10,16 +10,16 @@ use lib.Dec.{ltb}
 abbrev pub glyph : ℕ → ℕ
 glyph d = 48 + d
 
--- the digits of n, the most significant first, with no zero in front of another digit: places is how many there may be
+-- the digits of n, the most significant first, with no leading zeros, in at most so many places
 unfoldable pub spellingIn : ℕ → ℕ → List ℕ
 spellingIn zero n = []
 spellingIn (suc places) n = cond (ltb n 10) (glyph n ∷ []) (spellingIn places (n / 10) ++ (glyph (n % 10) ∷ []))
 
--- the spelling of a number: no number takes more than 10 digits
+-- the digits of a number: 10 places are enough for the largest
 unfoldable pub spelling : ℕ → List ℕ
 spelling n = spellingIn 10 n
 
--- the digits that printing n puts into a scratch: its spelling, and none where the scratch is under 10 bytes
+-- the digits that printing n puts into a scratch: all of them, and none where the scratch is under 10 bytes
 unfoldable pub shown : ℕ → List ℕ → List ℕ
 shown n scratch = cond (ltb (length scratch) 10) [] (spelling n)
 
