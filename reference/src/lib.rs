@@ -3,7 +3,8 @@
 //!
 //! - the machine: `call`, `answer`, `refusal`, `record`, `sound`, `calls`
 //! - the script program: `machine`, `script`
-//! - whole runs judged from calls and answers: `checker`, `replay`
+//! - whole runs judged from calls and answers: `checker`, `replay`,
+//!   `listed_runs`
 //! - inputs by seed: `random`, `contended`, `scripts`, `shrink`
 //!
 //! The code says object for card, abort for setback and zombie for marked.
@@ -15,6 +16,7 @@ pub mod call;
 pub mod calls;
 pub mod checker;
 pub mod contended;
+pub mod listed_runs;
 pub mod machine;
 pub mod random;
 pub mod record;
