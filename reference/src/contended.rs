@@ -163,11 +163,7 @@ impl Contention {
     fn access(&mut self, core: u32) -> Call {
         let object = self.random.below(self.objects);
         if self.random.percent(self.writes) {
-            Call::Write {
-                core,
-                object,
-                value: 1 + self.random.below(9),
-            }
+            Call::Write { core, object, value: 1 + self.random.below(9) }
         } else {
             Call::Read { core, object }
         }
@@ -181,11 +177,7 @@ impl Contention {
             0 => self.release(core),
             1 => Call::Begin { core },
             2 => Call::Read { core, object },
-            3 => Call::Write {
-                core,
-                object,
-                value: self.random.below(3),
-            },
+            3 => Call::Write { core, object, value: self.random.below(3) },
             4 => Call::Commit { core },
             5 => Call::GiveUp { core },
             _ => Call::Finish { core },
@@ -198,10 +190,7 @@ impl Contention {
             true => self.length,
             false => self.random.below(self.length + 1),
         };
-        let Some(seat) = call
-            .core()
-            .and_then(|core| self.seats.get_mut(core as usize))
-        else {
+        let Some(seat) = call.core().and_then(|core| self.seats.get_mut(core as usize)) else {
             return;
         };
         match answer {

@@ -6,7 +6,7 @@ use crate::answer::Answer;
 use crate::call::Call;
 use crate::checker::{Detail, Run};
 use crate::refusal;
-use crate::script::{parse_call, parse_names, Names, HEADING};
+use crate::script::{parse_call, parse_names, HEADING, MAX_LINES};
 
 /// A run and where it stands in the script.
 pub struct ListedRun {
@@ -26,28 +26,25 @@ pub fn listed_runs(script: &[u8], listing: &[u8]) -> Result<Vec<ListedRun>, Stri
     let Some(names) = script.first().and_then(|line| parse_names(line)) else {
         return Ok(Vec::new());
     };
+    let read = script.len().min(MAX_LINES as usize);
     let mut runs = Vec::new();
-    for (place, line) in script.iter().enumerate().skip(1) {
+    for (place, line) in script[..read].iter().enumerate().skip(1) {
         let number = place + 1;
         let shown = listing.get(place).and_then(|shown| answer(number, shown));
         let shown = shown.ok_or(format!("line {number} is not listed"))?;
-        if shown == Answer::Refused(refusal::MALFORMED_LINE) {
-            continue;
+        match (parse_call(names, line), shown) {
+            (None, MALFORMED) => {}
+            (Some(call), shown) if shown != MALFORMED => take(&mut runs, number, call, shown)?,
+            _ => return Err(format!("line {number} is not read as it should be")),
         }
-        take(&mut runs, names, number, line, shown)?;
     }
     Ok(runs)
 }
 
+const MALFORMED: Answer = Answer::Refused(refusal::MALFORMED_LINE);
+
 /// Adds a call to the last run, or starts a new one.
-fn take(
-    runs: &mut Vec<ListedRun>,
-    names: Names,
-    number: usize,
-    line: &[u8],
-    shown: Answer,
-) -> Result<(), String> {
-    let call = parse_call(names, line).ok_or(format!("line {number} is malformed"))?;
+fn take(runs: &mut Vec<ListedRun>, number: usize, call: Call, shown: Answer) -> Result<(), String> {
     match (call, shown, runs.last_mut()) {
         (Call::Setup { cores, objects }, Answer::Ready, _) => runs.push(start(cores, objects)),
         (Call::Setup { .. }, Answer::Refused(_), _) => runs.push(start(0, 0)),
@@ -81,9 +78,7 @@ fn start(cores: u32, objects: u32) -> ListedRun {
 fn lines(bytes: &[u8]) -> Vec<&[u8]> {
     let ended = |line: &[u8]| line.last() == Some(&b'\n');
     let parts = bytes.split_inclusive(|&byte| byte == b'\n');
-    parts
-        .map(|line| &line[..line.len() - usize::from(ended(line))])
-        .collect()
+    parts.map(|line| &line[..line.len() - usize::from(ended(line))]).collect()
 }
 
 /// The answer in a listing line of this number.

@@ -47,12 +47,8 @@ impl Machine {
         };
         let objects = MAX_OBJECTS.min(objects as usize);
         let words = MAX_CORES.min(cores as usize) * objects;
-        let (answer, after) = dispatch(
-            self.record,
-            call,
-            &mut self.committed[..objects],
-            &mut self.pending[..words],
-        );
+        let (answer, after) =
+            dispatch(self.record, call, &mut self.committed[..objects], &mut self.pending[..words]);
         self.record = after;
         answer
     }
@@ -67,18 +63,12 @@ pub fn dispatch(
 ) -> (Answer, Record) {
     match call {
         Call::Setup { cores, objects } => setup(cores, objects, committed, pending),
-        Call::Release {
-            core,
-            job,
-            deadline,
-        } => record.release(core, job, deadline),
+        Call::Release { core, job, deadline } => record.release(core, job, deadline),
         Call::Begin { core } => record.begin(core),
         Call::Read { core, object } => record.read(core, object, committed, pending),
-        Call::Write {
-            core,
-            object,
-            value,
-        } => record.write(core, object, value, committed, pending),
+        Call::Write { core, object, value } => {
+            record.write(core, object, value, committed, pending)
+        }
         Call::Commit { core } => record.commit(core, committed, pending),
         Call::GiveUp { core } => record.give_up(core),
         Call::Finish { core } => record.finish(core),

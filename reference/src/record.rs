@@ -66,11 +66,7 @@ impl Core {
 
     /// The same list of jobs, with no transaction.
     pub fn without_transaction(self) -> Core {
-        Core {
-            jobs: self.jobs,
-            job_count: self.job_count,
-            ..Core::default()
-        }
+        Core { jobs: self.jobs, job_count: self.job_count, ..Core::default() }
     }
 
     /// Whether the two transactions conflict: the write set of either meets

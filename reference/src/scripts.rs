@@ -13,7 +13,7 @@ mod spoil;
 const NAMES: [&str; 4] = ["call", "core", "card", "value"];
 
 /// One script in so many has lines up to the last that is read, or one more.
-const LONGEST_ONE_IN: u32 = 2_000;
+pub const LONGEST_ONE_IN: u32 = 2_000;
 
 /// The 24 orders of the names, each as places in the order call, core, card,
 /// value.
@@ -30,10 +30,7 @@ pub fn orders() -> Vec<[usize; 4]> {
 
 /// The fields in this order, one space between.
 pub fn arrange(order: [usize; 4], fields: &[String; 4]) -> Vec<u8> {
-    order
-        .map(|place| fields[place].as_str())
-        .join(" ")
-        .into_bytes()
+    order.map(|place| fields[place].as_str()).join(" ").into_bytes()
 }
 
 /// The names line for this order.
@@ -56,11 +53,7 @@ pub fn script(seed: u64) -> Vec<u8> {
     }
     for _ in 0..1 + random.below(3) {
         let calls = body(&mut random);
-        lines.extend(
-            calls
-                .into_iter()
-                .map(|call| arrange(order, &print_call(call))),
-        );
+        lines.extend(calls.into_iter().map(|call| arrange(order, &print_call(call))));
     }
     if random.percent(50) {
         let share = *random.pick(&[2, 10, 50]);
@@ -82,10 +75,7 @@ fn body(random: &mut Random) -> Vec<Call> {
 fn contended(random: &mut Random, most: u32) -> Vec<Call> {
     let mut contention = Contention::new(random.bits());
     let length = random.below(most) as usize;
-    let mut calls = vec![Call::Setup {
-        cores: contention.cores,
-        objects: contention.objects,
-    }];
+    let mut calls = vec![Call::Setup { cores: contention.cores, objects: contention.objects }];
     let run = contention.run(&mut Machine::blank(), length);
     calls.extend(run.steps.into_iter().map(|(call, _)| call));
     calls
@@ -100,10 +90,7 @@ fn any_call(random: &mut Random) -> Call {
     let object = *random.pick(&OBJECTS);
     let value = *random.pick(&VALUES);
     match random.below(8) {
-        0 => Call::Setup {
-            cores: core,
-            objects: object,
-        },
+        0 => Call::Setup { cores: core, objects: object },
         1 => Call::Release {
             core,
             job: *random.pick(&[0, 1, 9, 10, 65_534, 65_535]),
@@ -111,11 +98,7 @@ fn any_call(random: &mut Random) -> Call {
         },
         2 => Call::Begin { core },
         3 => Call::Read { core, object },
-        4 => Call::Write {
-            core,
-            object,
-            value,
-        },
+        4 => Call::Write { core, object, value },
         5 => Call::Commit { core },
         6 => Call::GiveUp { core },
         _ => Call::Finish { core },

@@ -79,12 +79,7 @@ fn without_stretches<T: Copy>(
 fn without_a_pair<T: Copy>(parts: &[T], fails: &mut dyn FnMut(&[T]) -> bool) -> Option<Vec<T>> {
     for second in 1..parts.len() {
         for first in 0..second {
-            let fewer = [
-                &parts[..first],
-                &parts[first + 1..second],
-                &parts[second + 1..],
-            ]
-            .concat();
+            let fewer = [&parts[..first], &parts[first + 1..second], &parts[second + 1..]].concat();
             if fails(&fewer) {
                 return Some(fewer);
             }

@@ -46,9 +46,7 @@ fn sets_within_objects(record: &Record) -> bool {
 
 /// A transaction needs a job.
 fn transaction_needs_job(record: &Record) -> bool {
-    record
-        .transactions()
-        .all(|core| core.owner < core.job_count)
+    record.transactions().all(|core| core.owner < core.job_count)
 }
 
 /// A core without a transaction has empty sets, no mark, and owner's place,
@@ -66,10 +64,7 @@ fn zombie_has_empty_sets(record: &Record) -> bool {
 
 /// A list has at most 8 jobs.
 fn list_at_most_full(record: &Record) -> bool {
-    record
-        .present()
-        .iter()
-        .all(|core| core.job_count <= MAX_JOBS)
+    record.present().iter().all(|core| core.job_count <= MAX_JOBS)
 }
 
 /// Unused job places, and places for cores and cards that the machine lacks,
@@ -98,12 +93,7 @@ fn owner_has_least_deadline(record: &Record) -> bool {
 
 /// Tickets in progress differ and are smaller than the count of tickets given.
 fn tickets_differ(record: &Record) -> bool {
-    let held = |ticket| {
-        record
-            .transactions()
-            .filter(|core| core.ticket == ticket)
-            .count()
-    };
+    let held = |ticket| record.transactions().filter(|core| core.ticket == ticket).count();
     let keeps = |core: &Core| core.ticket < record.tickets && held(core.ticket) == 1;
     record.transactions().all(keeps)
 }
@@ -118,20 +108,13 @@ fn tickets_counted(record: &Record) -> bool {
 /// No version exceeds the commits.
 fn versions_within_commits(record: &Record) -> bool {
     let has = MAX_OBJECTS.min(record.objects as usize);
-    record.versions[..has]
-        .iter()
-        .all(|&version| version <= record.commits)
+    record.versions[..has].iter().all(|&version| version <= record.commits)
 }
 
 /// A transaction's setbacks plus the number of smaller tickets in progress is
 /// at most cores - 1.
 fn aborts_bounded(record: &Record) -> bool {
-    let smaller = |ticket| {
-        record
-            .transactions()
-            .filter(|core| core.ticket < ticket)
-            .count()
-    };
+    let smaller = |ticket| record.transactions().filter(|core| core.ticket < ticket).count();
     let keeps = |core: &Core| {
         u64::from(core.aborts) + smaller(core.ticket) as u64 + 1 <= u64::from(record.cores)
     };

@@ -47,10 +47,7 @@ fn a_new_attempt_does_not_see_the_old_pending_word() {
     say(&mut machine, "write 0 0 6");
     assert_eq!(say(&mut machine, "commit 0 - -"), Answer::Committed(0));
     assert_eq!(say(&mut machine, "write 1 0 7"), Answer::SetBack);
-    let value = Answer::Value {
-        value: 6,
-        version: 1,
-    };
+    let value = Answer::Value { value: 6, version: 1 };
     assert_eq!(say(&mut machine, "read 1 0 -"), value);
 }
 
@@ -82,10 +79,7 @@ fn a_struck_one_keeps_its_ticket_and_counts_each_strike() {
     for (striker, value) in [(0, 5), (1, 6)] {
         assert_eq!(
             say(&mut machine, "read 2 0 -"),
-            Answer::Value {
-                value: if striker == 0 { 0 } else { 5 },
-                version: striker,
-            }
+            Answer::Value { value: if striker == 0 { 0 } else { 5 }, version: striker }
         );
         say(&mut machine, &format!("write {striker} 0 {value}"));
         say(&mut machine, &format!("commit {striker} - -"));

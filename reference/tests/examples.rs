@@ -40,14 +40,8 @@ fn c_objects_1_to_64() {
 
 #[test]
 fn d_core_16_of_16() {
-    assert_eq!(
-        last_answer(&["setup 16 1 -", "release 16 1 1"]),
-        "refused 4"
-    );
-    assert_eq!(
-        last_answer(&["setup 16 1 -", "release 15 1 1"]),
-        "running -"
-    );
+    assert_eq!(last_answer(&["setup 16 1 -", "release 16 1 1"]), "refused 4");
+    assert_eq!(last_answer(&["setup 16 1 -", "release 15 1 1"]), "running -");
 }
 
 #[test]
@@ -66,13 +60,8 @@ fn f_begin_twice() {
     assert_eq!(answers(&lines)[2..], ["begun 0", "refused 8"]);
 }
 
-const TWO_BEGUN: [&str; 5] = [
-    "setup 2 2 -",
-    "release 0 1 1",
-    "release 1 2 2",
-    "begin 0 - -",
-    "begin 1 - -",
-];
+const TWO_BEGUN: [&str; 5] =
+    ["setup 2 2 -", "release 0 1 1", "release 1 2 2", "begin 0 - -", "begin 1 - -"];
 
 fn after_two_begun(lines: &[&str]) -> Vec<String> {
     answers(&[&TWO_BEGUN, lines].concat()).split_off(TWO_BEGUN.len())
@@ -109,25 +98,14 @@ fn i_zombie_reads_object_64_of_64() {
     assert_eq!(machine.call(call("read 1 64 -")), Answer::Refused(5));
     assert_eq!(machine.record, before);
     assert_eq!(machine.call(call("read 1 63 -")), Answer::SetBack);
-    let value = Answer::Value {
-        value: 9,
-        version: 1,
-    };
+    let value = Answer::Value { value: 9, version: 1 };
     assert_eq!(machine.call(call("read 1 63 -")), value);
 }
 
 #[test]
 fn j_equal_deadlines_first_released_runs() {
-    let lines = [
-        "setup 1 1 -",
-        "release 0 7 90",
-        "release 0 8 90",
-        "finish 0 - -",
-    ];
-    assert_eq!(
-        answers(&lines)[1..],
-        ["running -", "queued -", "finished 7"]
-    );
+    let lines = ["setup 1 1 -", "release 0 7 90", "release 0 8 90", "finish 0 - -"];
+    assert_eq!(answers(&lines)[1..], ["running -", "queued -", "finished 7"]);
 }
 
 #[test]
@@ -143,23 +121,13 @@ fn k_urgent_job_waits_for_the_transaction() {
         "finish 0 - -",
         "finish 0 - -",
     ];
-    let expected = [
-        "queued -",
-        "refused 8",
-        "committed 0",
-        "finished 8",
-        "finished 7",
-        "refused 7",
-    ];
+    let expected =
+        ["queued -", "refused 8", "committed 0", "finished 8", "finished 7", "refused 7"];
     assert_eq!(answers(&lines)[3..], expected);
 }
 
 #[test]
 fn l_largest_value_and_one_more() {
-    let lines = [
-        "setup 1 1 -",
-        "write 0 0 4294967295",
-        "write 0 0 4294967296",
-    ];
+    let lines = ["setup 1 1 -", "write 0 0 4294967295", "write 0 0 4294967296"];
     assert_eq!(answers(&lines)[1..], ["refused 9", "refused 11"]);
 }

@@ -17,11 +17,7 @@ const CALLS: usize = 400;
 fn runs(knot: Knot) -> impl Iterator<Item = Run> {
     SEEDS.map(move |seed| {
         let run = Contention::new(seed).run(&mut Knotted::new(knot), CALLS);
-        Run {
-            tables: None,
-            last_table: None,
-            ..run
-        }
+        Run { tables: None, last_table: None, ..run }
     })
 }
 
@@ -44,27 +40,17 @@ fn without_a_knot_nothing_is_broken() {
 
 #[test]
 fn knot_new_ticket_loses_its_turn() {
-    caught(
-        Knot::NewTicket,
-        &[Claim::CommitsInTurn, Claim::StruckByEarlier],
-    );
+    caught(Knot::NewTicket, &[Claim::CommitsInTurn, Claim::StruckByEarlier]);
 }
 
 #[test]
 fn knot_write_sets_only_misses_the_reader() {
-    caught(
-        Knot::WriteSetsOnly,
-        &[Claim::ToldOnce, Claim::SerialReads, Claim::AbortsReported],
-    );
+    caught(Knot::WriteSetsOnly, &[Claim::ToldOnce, Claim::SerialReads, Claim::AbortsReported]);
 }
 
 #[test]
 fn knot_no_tickets_lets_a_latecomer_strike() {
-    let claims = [
-        Claim::CommitsInTurn,
-        Claim::StruckByEarlier,
-        Claim::StrikesAtMostK,
-    ];
+    let claims = [Claim::CommitsInTurn, Claim::StruckByEarlier, Claim::StrikesAtMostK];
     caught(Knot::NoTickets, &claims);
 }
 
@@ -80,10 +66,7 @@ fn knot_counted_twice_breaks_the_count() {
 
 #[test]
 fn buyer_waits_to_all() {
-    caught(
-        Knot::WaitsToAll,
-        &[Claim::WaitsForEarlier, Claim::RoundsBound],
-    );
+    caught(Knot::WaitsToAll, &[Claim::WaitsForEarlier, Claim::RoundsBound]);
 }
 
 #[test]
@@ -93,10 +76,7 @@ fn buyer_value_zero() {
 
 #[test]
 fn buyer_moves_nothing() {
-    caught(
-        Knot::MovesNothing,
-        &[Claim::SerialReads, Claim::StoodTogether],
-    );
+    caught(Knot::MovesNothing, &[Claim::SerialReads, Claim::StoodTogether]);
 }
 
 #[test]
@@ -126,10 +106,7 @@ fn buyer_waits_with_nobody_ahead() {
 fn buyer_refuses_with_no_reason() {
     for knot in [Knot::RefusesAll, Knot::TicketsSpent] {
         for run in runs(knot) {
-            assert!(
-                first_difference(MAX_CORES as u32, &run).is_some(),
-                "{knot:?}"
-            );
+            assert!(first_difference(MAX_CORES as u32, &run).is_some(), "{knot:?}");
         }
     }
 }

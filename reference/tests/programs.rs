@@ -46,9 +46,7 @@ fn compare_finds_no_difference_in_the_reference() {
 /// The reference with its listing edited, as a shell command.
 fn compare_edited(edit: &str) -> String {
     let command = format!("\"$0\" | sed '{edit}'");
-    let arguments = [
-        "--seed", "7", "--count", "150", "sh", "-c", &command, REFERENCE,
-    ];
+    let arguments = ["--seed", "7", "--count", "150", "sh", "-c", &command, REFERENCE];
     let output = output(COMPARE, &arguments, b"");
     assert_eq!(output.status.code(), Some(1), "{edit}");
     text(&output)
@@ -74,10 +72,7 @@ fn compare_shows_the_shortest_script_of_a_wrong_answer() {
 #[test]
 fn compare_shrinks_a_wrong_wait_to_few_lines() {
     let text = compare_edited("s/waits -/committed 0/");
-    let shown = text
-        .split("listing of the reference")
-        .next()
-        .expect("a script");
+    let shown = text.split("listing of the reference").next().expect("a script");
     // Names, setup, two jobs, two begins, two touches of a card, one commit.
     assert_eq!(shown.lines().count(), 1 + 9, "{text}");
 }
@@ -91,10 +86,7 @@ fn compare_shrinks_a_wrong_answer_to_empty_input() {
 #[test]
 fn compare_tells_how_it_is_used() {
     assert_eq!(output(COMPARE, &[], b"").status.code(), Some(2));
-    assert_eq!(
-        output(COMPARE, &["--seed", "x", "y"], b"").status.code(),
-        Some(2)
-    );
+    assert_eq!(output(COMPARE, &["--seed", "x", "y"], b"").status.code(), Some(2));
     let missing = output(COMPARE, &["--count", "1", "/no such program"], b"");
     assert_eq!(missing.status.code(), Some(2));
 }
@@ -116,14 +108,8 @@ fn check_run_judges_a_listing() {
     let bad = check_listing("bad.listing", &wrong);
     assert_eq!(bad.status.code(), Some(1));
     let shown = text(&bad);
-    assert!(
-        shown.contains("line 13: SerialReads broken for transaction 1\n"),
-        "{shown}"
-    );
-    assert!(
-        shown.contains("line 13: not the rule's answer\n"),
-        "{shown}"
-    );
+    assert!(shown.contains("line 13: SerialReads broken for transaction 1\n"), "{shown}");
+    assert!(shown.contains("line 13: not the rule's answer\n"), "{shown}");
 
     let short = check_listing("short.listing", "line answer value\n2 ready -\n");
     assert_eq!(short.status.code(), Some(1));

@@ -33,12 +33,7 @@ fn on(line: &str) -> Situation {
         Call::Setup { cores, objects } => (cores, objects),
         _ => (record.cores, record.objects),
     };
-    Situation {
-        record,
-        call,
-        committed: objects as usize,
-        pending: (cores * objects) as usize,
-    }
+    Situation { record, call, committed: objects as usize, pending: (cores * objects) as usize }
 }
 
 impl Situation {
@@ -185,12 +180,7 @@ fn the_smallest_number_is_given() {
     for (smaller, both, larger, mended) in two_at_once() {
         assert!(smaller < larger);
         assert_eq!(both.answer(), Answer::Refused(smaller), "{:?}", both.call);
-        assert_eq!(
-            mended.answer(),
-            Answer::Refused(larger),
-            "{:?}",
-            mended.call
-        );
+        assert_eq!(mended.answer(), Answer::Refused(larger), "{:?}", mended.call);
     }
 }
 
@@ -199,21 +189,9 @@ fn tables_wrong_by_one_each_way() {
     for line in ["setup 4 2 -", "read 0 1 -", "write 0 1 5", "commit 0 - -"] {
         let right = on(line);
         assert!(!matches!(right.answer(), Answer::Refused(_)), "{line}");
-        for (committed, pending) in [
-            (1, 8),
-            (3, 8),
-            (2, 7),
-            (2, 9),
-            (1, 7),
-            (3, 9),
-            (0, 0),
-            (8, 2),
-        ] {
-            let wrong = Situation {
-                committed,
-                pending,
-                ..right.clone()
-            };
+        for (committed, pending) in [(1, 8), (3, 8), (2, 7), (2, 9), (1, 7), (3, 9), (0, 0), (8, 2)]
+        {
+            let wrong = Situation { committed, pending, ..right.clone() };
             assert_eq!(wrong.answer(), Answer::Refused(3), "{line}");
         }
     }
@@ -221,12 +199,7 @@ fn tables_wrong_by_one_each_way() {
 
 #[test]
 fn calls_without_tables_ask_for_none() {
-    for line in [
-        "release 1 1 1",
-        "begin 1 - -",
-        "giveup 0 - -",
-        "finish 1 - -",
-    ] {
+    for line in ["release 1 1 1", "begin 1 - -", "giveup 0 - -", "finish 1 - -"] {
         let answer = on(line).short_tables().answer();
         assert!(!matches!(answer, Answer::Refused(_)), "{line}");
     }
@@ -242,13 +215,7 @@ fn the_last_ticket_is_given() {
 
 #[test]
 fn the_blank_record_is_unsound() {
-    for line in [
-        "release 0 1 1",
-        "begin 0 - -",
-        "read 0 0 -",
-        "write 0 0 1",
-        "commit 0 - -",
-    ] {
+    for line in ["release 0 1 1", "begin 0 - -", "read 0 0 -", "write 0 0 1", "commit 0 - -"] {
         let mut blank = on(line);
         blank.record = Record::blank();
         assert_eq!(blank.answer(), Answer::Refused(2), "{line}");
@@ -269,31 +236,16 @@ fn a_refused_call_leaves_a_mark_in_place() {
     ];
     let record = machine(&lines).record;
     assert!(record.core[1].zombie);
-    for (number, line) in [
-        (5, "read 1 2 -"),
-        (5, "write 1 2 1"),
-        (8, "begin 1 - -"),
-        (8, "finish 1 - -"),
-    ] {
-        let marked = Situation {
-            record,
-            pending: 4,
-            ..on(line)
-        };
+    for (number, line) in
+        [(5, "read 1 2 -"), (5, "write 1 2 1"), (8, "begin 1 - -"), (8, "finish 1 - -")]
+    {
+        let marked = Situation { record, pending: 4, ..on(line) };
         assert_eq!(marked.answer(), Answer::Refused(number), "{line}");
     }
     for line in ["read 1 0 -", "write 1 0 1", "commit 1 - -"] {
-        let short = Situation {
-            record,
-            pending: 3,
-            ..on(line)
-        };
+        let short = Situation { record, pending: 3, ..on(line) };
         assert_eq!(short.answer(), Answer::Refused(3), "{line}");
-        let marked = Situation {
-            record,
-            pending: 4,
-            ..on(line)
-        };
+        let marked = Situation { record, pending: 4, ..on(line) };
         assert_eq!(marked.answer(), Answer::SetBack, "{line}");
     }
 }

@@ -20,13 +20,7 @@ fn malformed(line: &str) -> bool {
 
 #[test]
 fn names_in_each_order() {
-    let lines = [
-        "setup 2 2 -",
-        "release 0 7 100",
-        "begin 0 - -",
-        "write 0 1 9",
-        "read 0 1 -",
-    ];
+    let lines = ["setup 2 2 -", "release 0 7 100", "begin 0 - -", "write 0 1 9", "read 0 1 -"];
     let expected = "2 ready -\n3 running -\n4 begun 0\n5 written -\n6 value 9\n";
     assert_eq!(orders().len(), 24);
     for order in orders() {
@@ -62,11 +56,7 @@ fn bad_names_line_ends_the_run() {
         "setup 1 1 -\n",
     ];
     for script in bad {
-        assert_eq!(
-            listing(script.as_bytes()),
-            format!("{HEADING}1 refused 11\n"),
-            "{script:?}"
-        );
+        assert_eq!(listing(script.as_bytes()), format!("{HEADING}1 refused 11\n"), "{script:?}");
     }
     let long = format!("{NAMES}{}\nsetup 1 1 -\n", " ".repeat(100_000));
     assert_eq!(listing(long.as_bytes()), format!("{HEADING}1 refused 11\n"));
@@ -107,10 +97,7 @@ fn lines_of_64_and_65_bytes_and_far_more() {
 
 #[test]
 fn job_numbers() {
-    assert_eq!(
-        last_answer(&["setup 1 1 -", "release 0 65535 1"]),
-        "running -"
-    );
+    assert_eq!(last_answer(&["setup 1 1 -", "release 0 65535 1"]), "running -");
     for job in ["65536", "131071", "4294967295"] {
         assert!(malformed(&format!("release 0 {job} 1")));
     }
@@ -251,10 +238,7 @@ fn end_of_long(empty_lines: usize, last: &str) -> Vec<String> {
     let script = format!("{NAMES}\n{}{last}", "\n".repeat(empty_lines));
     let listing = listing(script.as_bytes());
     let lines: Vec<&str> = listing.lines().collect();
-    lines[lines.len() - 2..]
-        .iter()
-        .map(|line| line.to_string())
-        .collect()
+    lines[lines.len() - 2..].iter().map(|line| line.to_string()).collect()
 }
 
 #[test]
@@ -300,10 +284,7 @@ impl Read for Slow<'_> {
 #[test]
 fn chunks_of_one_byte_give_the_same_listing() {
     let script = include_bytes!("data/case_a.script");
-    let slow = Slow {
-        bytes: script,
-        interrupted: false,
-    };
+    let slow = Slow { bytes: script, interrupted: false };
     let mut output = Vec::new();
     run(slow, &mut output).expect("an interrupted read is tried again");
     assert_eq!(output, listing_of(script));

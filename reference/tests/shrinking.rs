@@ -48,14 +48,10 @@ fn a_script_that_does_not_fail_is_left_alone() {
 
 #[test]
 fn the_result_still_fails_and_no_line_can_go() {
-    let script: Vec<u8> = (0..300)
-        .flat_map(|n: u32| format!("{n}\n").into_bytes())
-        .collect();
+    let script: Vec<u8> = (0..300).flat_map(|n: u32| format!("{n}\n").into_bytes()).collect();
     let sum = |script: &[u8]| -> u64 {
         let text = String::from_utf8_lossy(script).into_owned();
-        text.lines()
-            .filter_map(|line| line.parse::<u64>().ok())
-            .sum()
+        text.lines().filter_map(|line| line.parse::<u64>().ok()).sum()
     };
     let mut fails = |script: &[u8]| sum(script) >= 1_000 && script.len() <= 4_000;
     let shortest = shrink(&script, &mut fails);

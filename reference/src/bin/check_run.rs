@@ -38,12 +38,7 @@ impl Tally {
     }
 
     fn print(&self) -> ExitCode {
-        let Tally {
-            runs,
-            calls,
-            broken,
-            ..
-        } = self;
+        let Tally { runs, calls, broken, .. } = self;
         println!("checked {runs} runs ({calls} calls), {broken} claims broken");
         if let Some(nearest) = self.nearest {
             let Nearest { rounds, bound } = nearest;

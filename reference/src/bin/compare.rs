@@ -21,11 +21,7 @@ struct Options {
 }
 
 fn options(mut arguments: impl Iterator<Item = String>) -> Option<Options> {
-    let mut options = Options {
-        seed: 1,
-        count: 1_000,
-        program: Vec::new(),
-    };
+    let mut options = Options { seed: 1, count: 1_000, program: Vec::new() };
     while let Some(argument) = arguments.next() {
         match argument.as_str() {
             "--seed" => options.seed = arguments.next()?.parse().ok()?,
@@ -63,10 +59,7 @@ fn print_difference(seed: u64, program: &[String], found: &[u8]) -> io::Result<(
         Err(_) => false,
     };
     let shortest = shrink(found, &mut differs);
-    println!(
-        "seed {seed} differs; shortest script, {} bytes:",
-        shortest.len()
-    );
+    println!("seed {seed} differs; shortest script, {} bytes:", shortest.len());
     print_bytes(&shortest);
     println!("listing of the reference:");
     print_bytes(&listing_of(&shortest));

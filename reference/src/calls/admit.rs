@@ -25,10 +25,7 @@ impl Record {
 
     /// Refusal 3: either table's length is wrong.
     pub(super) fn admit_tables(&self, committed: &[u32], pending: &[u32]) -> Admitted<()> {
-        unless(
-            !lengths_fit(self.cores, self.objects, committed, pending),
-            refusal::TABLE_LENGTH,
-        )
+        unless(!lengths_fit(self.cores, self.objects, committed, pending), refusal::TABLE_LENGTH)
     }
 
     /// Refusal 4: no such core.

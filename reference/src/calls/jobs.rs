@@ -13,10 +13,7 @@ impl Record {
             Err(number) => return (Answer::Refused(number), self),
         };
         let place = self.core[c].job_count;
-        self.core[c].jobs[place] = Job {
-            number: job,
-            deadline,
-        };
+        self.core[c].jobs[place] = Job { number: job, deadline };
         self.core[c].job_count += 1;
         if self.core[c].running() == Some(place) {
             (Answer::Running, self)

@@ -21,10 +21,6 @@ pub fn setup(
     }
     committed.fill(0);
     pending.fill(0);
-    let record = Record {
-        cores,
-        objects,
-        ..Record::blank()
-    };
+    let record = Record { cores, objects, ..Record::blank() };
     (Answer::Ready, record)
 }

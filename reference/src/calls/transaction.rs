@@ -13,12 +13,8 @@ impl Record {
             Err(number) => return (Answer::Refused(number), self),
         };
         let ticket = self.tickets;
-        self.core[c] = Core {
-            in_progress: true,
-            owner,
-            ticket,
-            ..self.core[c].without_transaction()
-        };
+        self.core[c] =
+            Core { in_progress: true, owner, ticket, ..self.core[c].without_transaction() };
         self.tickets += 1;
         (Answer::Begun(ticket), self)
     }
@@ -49,11 +45,7 @@ impl Record {
             return self.tell_set_back(c);
         }
         let own = self.core[c].write_set & only(d) != 0;
-        let value = if own {
-            pending[self.pending_place(c, d)]
-        } else {
-            committed[d]
-        };
+        let value = if own { pending[self.pending_place(c, d)] } else { committed[d] };
         let version = self.versions[d];
         self.core[c].read_set |= only(d);
         (Answer::Value { value, version }, self)

@@ -10,10 +10,11 @@ pub(super) fn check(history: &History, report: &mut Report) {
         for happening in &transaction.happenings {
             let claim = match &happening.event {
                 Event::Waited { ahead, .. } if ahead.is_empty() => Claim::WaitsForEarlier,
-                Event::Waited {
-                    named: Some(named),
-                    ahead,
-                } if !names_one(history, *named, ahead) => Claim::WaitsNamesEarlier,
+                Event::Waited { named: Some(named), ahead }
+                    if !names_one(history, *named, ahead) =>
+                {
+                    Claim::WaitsNamesEarlier
+                }
                 Event::Committed { ahead, .. } if !ahead.is_empty() => Claim::CommitsInTurn,
                 _ => continue,
             };

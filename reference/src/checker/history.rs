@@ -10,20 +10,13 @@ use crate::record::{only, Set, MAX_CORES};
 #[derive(Clone, Debug)]
 pub enum Event {
     /// A read answered with a value.
-    Read {
-        object: usize,
-        value: u32,
-        version: Option<u32>,
-    },
+    Read { object: usize, value: u32, version: Option<u32> },
     /// A write answered written.
     Wrote { object: usize, value: u32 },
     /// A call answered set back.
     Told,
     /// A commit answered waits, and the earlier ones in conflict then.
-    Waited {
-        named: Option<u32>,
-        ahead: Vec<usize>,
-    },
+    Waited { named: Option<u32>, ahead: Vec<usize> },
     /// A commit answered committed, and the earlier ones in conflict then.
     Committed { aborts: u32, ahead: Vec<usize> },
     /// A give up answered ended.
@@ -131,14 +124,9 @@ impl Walk {
                 let version = self.shown(version);
                 self.read(number, core, object as usize, value, version)
             }
-            (
-                Call::Write {
-                    core,
-                    object,
-                    value,
-                },
-                Answer::Written,
-            ) => self.wrote(number, core, object as usize, value),
+            (Call::Write { core, object, value }, Answer::Written) => {
+                self.wrote(number, core, object as usize, value)
+            }
             (
                 Call::Read { core, .. } | Call::Write { core, .. } | Call::Commit { core },
                 Answer::SetBack,
@@ -171,10 +159,7 @@ impl Walk {
         let own = (*self.open.get(core as usize)?)?;
         let event = event(self.ahead_in_conflict(own));
         self.history.acts[number] = Some(own);
-        self.history.transactions[own].happenings.push(Happening {
-            call: number,
-            event,
-        });
+        self.history.transactions[own].happenings.push(Happening { call: number, event });
         Some(own)
     }
 
@@ -206,11 +191,7 @@ impl Walk {
         value: u32,
         version: Option<u32>,
     ) -> Option<()> {
-        let own = self.act(number, core, |_| Event::Read {
-            object,
-            value,
-            version,
-        })?;
+        let own = self.act(number, core, |_| Event::Read { object, value, version })?;
         self.touched[own] |= only(object);
         Some(())
     }
@@ -238,10 +219,9 @@ impl Walk {
             if self.touched[other] & self.written[own] != 0 {
                 self.touched[other] = 0;
                 self.written[other] = 0;
-                self.history.transactions[other].happenings.push(Happening {
-                    call: number,
-                    event: Event::Struck { by: own },
-                });
+                self.history.transactions[other]
+                    .happenings
+                    .push(Happening { call: number, event: Event::Struck { by: own } });
             }
         }
         Some(())
@@ -261,8 +241,6 @@ impl Walk {
                 || self.written[other] & self.touched[own] != 0
         };
         let in_progress = self.open.iter().flatten().copied();
-        in_progress
-            .filter(|&other| other < own && conflict(other))
-            .collect()
+        in_progress.filter(|&other| other < own && conflict(other)).collect()
     }
 }

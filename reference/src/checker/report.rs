@@ -91,11 +91,7 @@ pub struct Report {
 impl Report {
     /// Adds a broken claim.
     pub fn add(&mut self, call: usize, claim: Claim, transaction: Option<usize>) {
-        self.broken.push(Broken {
-            call,
-            claim,
-            transaction,
-        });
+        self.broken.push(Broken { call, claim, transaction });
     }
 
     /// Whether this claim is among the broken ones.

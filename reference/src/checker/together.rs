@@ -40,16 +40,9 @@ fn handed(attempt: &[Happening]) -> Vec<Handed> {
     for happening in attempt {
         match happening.event {
             Event::Wrote { object, .. } => written |= only(object),
-            Event::Read {
-                object,
-                value,
-                version,
-            } if written & only(object) == 0 => handed.push(Handed {
-                call: happening.call,
-                object,
-                value,
-                version,
-            }),
+            Event::Read { object, value, version } if written & only(object) == 0 => {
+                handed.push(Handed { call: happening.call, object, value, version })
+            }
             _ => {}
         }
     }
@@ -68,12 +61,7 @@ fn stood_together(own: usize, handed: &[Handed], tables: &Tables, report: &mut R
 
 fn versions(own: usize, attempt: &[Happening], tables: &Tables, report: &mut Report) {
     for happening in attempt {
-        let Event::Read {
-            object,
-            version: Some(version),
-            ..
-        } = happening.event
-        else {
+        let Event::Read { object, version: Some(version), .. } = happening.event else {
             continue;
         };
         let now = tables.before(happening.call).next();

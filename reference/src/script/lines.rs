@@ -18,10 +18,7 @@ pub struct Lines<R> {
 impl<R: Read> Lines<R> {
     /// Starts before the first line.
     pub fn new(input: R) -> Lines<R> {
-        Lines {
-            input: BufReader::with_capacity(CHUNK, input),
-            line: [0; MAX_LINE + 1],
-        }
+        Lines { input: BufReader::with_capacity(CHUNK, input), line: [0; MAX_LINE + 1] }
     }
 
     /// Whether no byte is left, and so no line. A newline at the very end of

@@ -38,18 +38,14 @@ pub fn print_call(call: Call) -> [String; 4] {
     let dash = || "-".to_string();
     let (word, core, card, value) = match call {
         Call::Setup { cores, objects } => ("setup", cores, objects.to_string(), dash()),
-        Call::Release {
-            core,
-            job,
-            deadline,
-        } => ("release", core, job.to_string(), deadline.to_string()),
+        Call::Release { core, job, deadline } => {
+            ("release", core, job.to_string(), deadline.to_string())
+        }
         Call::Begin { core } => ("begin", core, dash(), dash()),
         Call::Read { core, object } => ("read", core, object.to_string(), dash()),
-        Call::Write {
-            core,
-            object,
-            value,
-        } => ("write", core, object.to_string(), value.to_string()),
+        Call::Write { core, object, value } => {
+            ("write", core, object.to_string(), value.to_string())
+        }
         Call::Commit { core } => ("commit", core, dash(), dash()),
         Call::GiveUp { core } => ("giveup", core, dash(), dash()),
         Call::Finish { core } => ("finish", core, dash(), dash()),

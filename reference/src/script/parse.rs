@@ -27,25 +27,13 @@ pub fn parse_call(names: Names, line: &[u8]) -> Option<Call> {
     let [call, core, card, value] = names.0.map(|place| fields[place]);
     let core = number(core)?;
     Some(match call {
-        b"setup" => Call::Setup {
-            cores: core,
-            objects: number(card)?,
-        },
-        b"release" => Call::Release {
-            core,
-            job: number(card)?.try_into().ok()?,
-            deadline: number(value)?,
-        },
+        b"setup" => Call::Setup { cores: core, objects: number(card)? },
+        b"release" => {
+            Call::Release { core, job: number(card)?.try_into().ok()?, deadline: number(value)? }
+        }
         b"begin" => Call::Begin { core },
-        b"read" => Call::Read {
-            core,
-            object: number(card)?,
-        },
-        b"write" => Call::Write {
-            core,
-            object: number(card)?,
-            value: number(value)?,
-        },
+        b"read" => Call::Read { core, object: number(card)? },
+        b"write" => Call::Write { core, object: number(card)?, value: number(value)? },
         b"commit" => Call::Commit { core },
         b"giveup" => Call::GiveUp { core },
         b"finish" => Call::Finish { core },

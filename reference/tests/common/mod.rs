@@ -20,9 +20,7 @@ pub fn answers(lines: &[&str]) -> Vec<String> {
 
 /// The last listing line of these script lines.
 pub fn last_answer(lines: &[&str]) -> String {
-    answers(lines)
-        .pop()
-        .expect("a script with lines has answers")
+    answers(lines).pop().expect("a script with lines has answers")
 }
 
 /// The call that a script line makes.

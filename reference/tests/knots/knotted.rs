@@ -56,10 +56,9 @@ impl Subject for Knotted {
     /// would refuse what some knots do.
     fn call(&mut self, call: Call) -> Answer {
         match call {
-            Call::Setup { objects, .. } => self.machine.call(Call::Setup {
-                cores: MAX_CORES as u32,
-                objects,
-            }),
+            Call::Setup { objects, .. } => {
+                self.machine.call(Call::Setup { cores: MAX_CORES as u32, objects })
+            }
             Call::Commit { core } if self.may_commit(core) => self.commit(core as usize),
             _ => self.other_call(call),
         }
