@@ -61,7 +61,8 @@ impl Contention {
     /// Chooses the shape of the run by the seed.
     pub fn new(seed: u64) -> Contention {
         let mut random = Random::new(seed);
-        let cores = *random.pick(&[1, 2, 2, 3, 3, 4, 4, 5, 6, 8, 12, 16]);
+        let most_cores = *random.pick(&[2, 4, 4, 8, 16]);
+        let cores = 1 + random.below(most_cores);
         let objects = *random.pick(&[1, 1, 2, 2, 3, 4, 8, 64]);
         let even = random.percent(30);
         Contention {
@@ -96,6 +97,7 @@ impl Contention {
             }
         }
         Run {
+            cores,
             objects,
             steps,
             detail: Detail::Whole,

@@ -1,7 +1,8 @@
 //! Second implementation of the shared cards machine, written from document 01
 //! alone, and the checks that stand beside it.
 //!
-//! - the machine: `call`, `answer`, `refusal`, `record`, `sound`, `calls`
+//! - the machine: `call`, `answer`, `refusal`, `set`, `record`, `sound`,
+//!   `calls`
 //! - the script program: `machine`, `script`
 //! - whole runs judged from calls and answers: `checker`, `replay`,
 //!   `listed_runs`
@@ -24,5 +25,6 @@ pub mod refusal;
 pub mod replay;
 pub mod script;
 pub mod scripts;
+pub mod set;
 pub mod shrink;
 pub mod sound;

@@ -7,10 +7,10 @@ use crate::call::Call;
 use crate::checker::{Detail, Run};
 use crate::refusal;
 use crate::script::{parse_call, parse_names, HEADING, MAX_LINES};
+use crate::sound::in_range;
 
 /// A run and where it stands in the script.
 pub struct ListedRun {
-    pub cores: u32,
     pub run: Run,
     /// For each call its line number.
     pub lines: Vec<usize>,
@@ -46,9 +46,13 @@ const MALFORMED: Answer = Answer::Refused(refusal::MALFORMED_LINE);
 /// Adds a call to the last run, or starts a new one.
 fn take(runs: &mut Vec<ListedRun>, number: usize, call: Call, shown: Answer) -> Result<(), String> {
     match (call, shown, runs.last_mut()) {
-        (Call::Setup { cores, objects }, Answer::Ready, _) => runs.push(start(cores, objects)),
+        (Call::Setup { cores, objects }, Answer::Ready, _) if in_range(cores, objects) => {
+            runs.push(start(cores, objects));
+        }
         (Call::Setup { .. }, Answer::Refused(_), _) => runs.push(start(0, 0)),
-        (Call::Setup { .. }, _, _) => return Err(format!("line {number} is not ready")),
+        (Call::Setup { .. }, _, _) => {
+            return Err(format!("line {number} is not answered as a setup"))
+        }
         (_, _, Some(last)) => {
             last.run.steps.push((call, shown));
             last.lines.push(number);
@@ -63,8 +67,8 @@ fn take(runs: &mut Vec<ListedRun>, number: usize, call: Call, shown: Answer) -> 
 /// so that only refused calls fit.
 fn start(cores: u32, objects: u32) -> ListedRun {
     ListedRun {
-        cores,
         run: Run {
+            cores,
             objects,
             steps: Vec::new(),
             detail: Detail::Listed,

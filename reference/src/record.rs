@@ -1,6 +1,8 @@
 //! The machine's record: everything that a call keeps for the next one,
 //! except the words of the two lent tables.
 
+use crate::set::Set;
+
 /// Most cores that a machine has.
 pub const MAX_CORES: usize = 16;
 /// Most objects (cards) that a machine has.
@@ -9,14 +11,6 @@ pub const MAX_OBJECTS: usize = 64;
 pub const MAX_JOBS: usize = 8;
 /// Most tickets that are ever given.
 pub const MAX_TICKETS: u32 = 4_294_967_295;
-
-/// A set of objects: object d is in it if bit d is 1.
-pub type Set = u64;
-
-/// The set that holds one object.
-pub fn only(object: usize) -> Set {
-    1 << object
-}
 
 /// A released job: its number is a label, its deadline decides who runs.
 #[derive(Clone, Copy, Debug, Default, PartialEq, Eq)]

@@ -9,9 +9,9 @@ use crate::record::Record;
 use crate::script::listed;
 
 /// The first call of the run, counted from 0, whose answer is not the rule's.
-pub fn first_difference(cores: u32, run: &Run) -> Option<usize> {
+pub fn first_difference(run: &Run) -> Option<usize> {
     let mut machine = Machine::blank();
-    machine.call(Call::Setup { cores, objects: run.objects });
+    machine.call(Call::Setup { cores: run.cores, objects: run.objects });
     run.steps.iter().position(|&(call, seen)| {
         let before = machine.record;
         let expected = machine.call(call);

@@ -116,7 +116,7 @@ fn versions_within_commits(record: &Record) -> bool {
 fn aborts_bounded(record: &Record) -> bool {
     let smaller = |ticket| record.transactions().filter(|core| core.ticket < ticket).count();
     let keeps = |core: &Core| {
-        u64::from(core.aborts) + smaller(core.ticket) as u64 + 1 <= u64::from(record.cores)
+        u64::from(core.aborts) + (smaller(core.ticket) as u64) < u64::from(record.cores)
     };
     record.transactions().all(keeps)
 }

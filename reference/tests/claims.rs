@@ -49,7 +49,7 @@ fn answer_fits() {
         [("begin 0 - -", "begun 0"), ("begin 0 - -", "begun 1")],
         [("begin 0 - -", "begun 0"), ("read 1 0 -", "value 0")],
         [("begin 0 - -", "begun 0"), ("read 0 3 -", "value 0")],
-        [("begin 0 - -", "begun 0"), ("write 16 0 1", "written -")],
+        [("begin 0 - -", "begun 0"), ("write 3 0 1", "written -")],
         [("begin 0 - -", "begun 0"), ("giveup 0 - -", "committed 0")],
         [("begin 0 - -", "begun 0"), ("giveup 0 - -", "setback -")],
         [("begin 0 - -", "begun 0"), ("finish 1 - -", "running -")],
@@ -139,6 +139,7 @@ fn values_of_a_later_commit_did_not_stand_yet() {
 /// A run whose answers show everything.
 fn whole(steps: &[(&str, Answer)]) -> Run {
     Run {
+        cores: 3,
         objects: 3,
         steps: steps.iter().map(|&(line, answer)| (call(line), answer)).collect(),
         detail: Detail::Whole,

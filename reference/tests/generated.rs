@@ -20,7 +20,7 @@ fn runs_of_the_reference_break_no_claim() {
         let run = contention.run(&mut Machine::blank(), 1_000);
         let report = check(&run);
         assert_eq!(report.broken, [], "seed {seed}");
-        assert_eq!(first_difference(contention.cores, &run), None, "seed {seed}");
+        assert_eq!(first_difference(&run), None, "seed {seed}");
         if let Some(near) = report.nearest {
             nearest = Some(nearest.map_or(near, |old| old.nearer(near)));
         }
@@ -135,7 +135,7 @@ fn listings_of_scripts_break_no_claim() {
         let runs = listed_runs(&script, &listing_of(&script)).expect("a good listing");
         for listed in runs {
             assert_eq!(check(&listed.run).broken, [], "seed {seed}");
-            assert_eq!(first_difference(listed.cores, &listed.run), None, "seed {seed}");
+            assert_eq!(first_difference(&listed.run), None, "seed {seed}");
         }
     }
 }

@@ -13,11 +13,12 @@ use knotted::{Knot, Knotted};
 const SEEDS: std::ops::Range<u64> = 0..60;
 const CALLS: usize = 400;
 
-/// Contended runs of the knotted machine, without its tables.
+/// Contended runs of the knotted machine, which has all cores, without its
+/// tables.
 fn runs(knot: Knot) -> impl Iterator<Item = Run> {
     SEEDS.map(move |seed| {
         let run = Contention::new(seed).run(&mut Knotted::new(knot), CALLS);
-        Run { tables: None, last_table: None, ..run }
+        Run { cores: MAX_CORES as u32, tables: None, last_table: None, ..run }
     })
 }
 
@@ -34,7 +35,7 @@ fn caught(knot: Knot, claims: &[Claim]) {
 fn without_a_knot_nothing_is_broken() {
     for run in runs(Knot::None) {
         assert_eq!(check(&run).broken, []);
-        assert_eq!(first_difference(MAX_CORES as u32, &run), None);
+        assert_eq!(first_difference(&run), None);
     }
 }
 
@@ -106,7 +107,7 @@ fn buyer_waits_with_nobody_ahead() {
 fn buyer_refuses_with_no_reason() {
     for knot in [Knot::RefusesAll, Knot::TicketsSpent] {
         for run in runs(knot) {
-            assert!(first_difference(MAX_CORES as u32, &run).is_some(), "{knot:?}");
+            assert!(first_difference(&run).is_some(), "{knot:?}");
         }
     }
 }
@@ -126,7 +127,7 @@ fn every_knot_shows_in_the_answers() {
         Knot::InventsAborts,
         Knot::WaitsForNobody,
     ] {
-        let differs = runs(knot).any(|run| first_difference(MAX_CORES as u32, &run).is_some());
+        let differs = runs(knot).any(|run| first_difference(&run).is_some());
         assert!(differs, "{knot:?}");
     }
 }

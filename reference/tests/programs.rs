@@ -87,7 +87,7 @@ fn compare_shrinks_a_wrong_answer_to_empty_input() {
 fn compare_tells_how_it_is_used() {
     assert_eq!(output(COMPARE, &[], b"").status.code(), Some(2));
     assert_eq!(output(COMPARE, &["--seed", "x", "y"], b"").status.code(), Some(2));
-    let missing = output(COMPARE, &["--count", "1", "/no such program"], b"");
+    let missing = output(COMPARE, &["--count", "1", "no-such-program"], b"");
     assert_eq!(missing.status.code(), Some(2));
 }
 

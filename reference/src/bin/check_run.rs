@@ -56,7 +56,7 @@ fn judge_listed(listed: &ListedRun, tally: &mut Tally) {
         println!("line {}: {broken}", listed.lines[broken.call]);
     }
     tally.add(listed.run.steps.len(), &report);
-    if let Some(call) = first_difference(listed.cores, &listed.run) {
+    if let Some(call) = first_difference(&listed.run) {
         println!("line {}: not the rule's answer", listed.lines[call]);
         tally.broken += 1;
     }

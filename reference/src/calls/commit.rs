@@ -2,7 +2,8 @@
 
 use super::admit::Admitted;
 use crate::answer::Answer;
-use crate::record::{only, Record, Set};
+use crate::record::Record;
+use crate::set::{only, Set};
 
 impl Record {
     /// Set back for a zombie; waits if a conflicting transaction has a smaller

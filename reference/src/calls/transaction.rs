@@ -2,7 +2,8 @@
 
 use super::admit::Admitted;
 use crate::answer::Answer;
-use crate::record::{only, Core, Record};
+use crate::record::{Core, Record};
+use crate::set::only;
 
 impl Record {
     /// The running job's transaction gets the next ticket, from 0. Its sets

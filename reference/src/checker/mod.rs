@@ -12,6 +12,7 @@ mod strikes;
 mod tables;
 mod together;
 mod told;
+mod walk;
 
 pub use report::{Broken, Claim, Nearest, Report};
 
@@ -33,6 +34,7 @@ pub enum Detail {
 /// The calls after an accepted setup, each with its answer.
 #[derive(Clone, Debug)]
 pub struct Run {
+    pub cores: u32,
     pub objects: u32,
     pub steps: Vec<(Call, Answer)>,
     pub detail: Detail,

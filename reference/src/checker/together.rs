@@ -6,7 +6,7 @@
 use super::history::{Event, Happening, History};
 use super::report::{Claim, Report};
 use super::tables::{Tables, Word};
-use crate::record::{only, Set};
+use crate::set::{only, Set};
 
 /// A read of a committed value.
 struct Handed {
@@ -19,7 +19,7 @@ struct Handed {
 impl Handed {
     fn stood_in(&self, table: &[Word]) -> bool {
         let word = table[self.object];
-        word.value == self.value && self.version.map_or(true, |version| version == word.version)
+        word.value == self.value && self.version.is_none_or(|version| version == word.version)
     }
 }
 

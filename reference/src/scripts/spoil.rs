@@ -107,7 +107,7 @@ fn sized(random: &mut Random, line: &[u8]) -> Vec<u8> {
         line.resize(length, filler);
     } else {
         let missing = length.saturating_sub(line.len());
-        line.splice(0..0, std::iter::repeat(filler).take(missing));
+        line.splice(0..0, std::iter::repeat_n(filler, missing));
     }
     line
 }

@@ -6,7 +6,8 @@ use cards_reference::answer::Answer;
 use cards_reference::call::Call;
 use cards_reference::contended::Subject;
 use cards_reference::machine::Machine;
-use cards_reference::record::{Record, Set, MAX_CORES};
+use cards_reference::record::{Record, MAX_CORES};
+use cards_reference::set::Set;
 
 /// What is wrong with the machine.
 #[derive(Clone, Copy, Debug, PartialEq, Eq)]
