@@ -70,9 +70,8 @@ impl Situation {
     }
 }
 
-#[test]
-fn each_row() {
-    let rows = [
+fn rows() -> Vec<(u32, Situation)> {
+    vec![
         (1, on("setup 0 2 -")),
         (1, on("setup 17 2 -")),
         (1, on("setup 2 0 -")),
@@ -109,75 +108,62 @@ fn each_row() {
         (9, on("commit 1 - -")),
         (9, on("giveup 1 - -")),
         (10, on("begin 1 - -").tickets_spent()),
-    ];
-    for (number, situation) in rows {
+    ]
+}
+
+#[test]
+fn each_row() {
+    for (number, situation) in rows() {
         let answer = situation.answer();
         assert_eq!(answer, Answer::Refused(number), "{:?}", situation.call);
     }
 }
 
-/// For each two rows that can apply at once: a situation where both do, and
-/// the same one with the smaller condition mended.
-fn two_at_once() -> Vec<(u32, Situation, u32, Situation)> {
-    let mut rows = vec![(1, on("setup 0 2 -"), 3, on("setup 1 2 -"))];
-    rows[0].1.committed = 1;
-    rows[0].3.committed = 1;
-    for (number, larger) in [
-        (4, on("release 4 1 1")),
-        (6, on("release 3 1 1")),
-        (4, on("begin 4 - -")),
-        (7, on("begin 2 - -")),
-        (8, on("begin 0 - -")),
-        (10, on("begin 1 - -").tickets_spent()),
-        (3, on("read 0 0 -").short_tables()),
-        (4, on("read 4 0 -")),
-        (5, on("read 0 2 -")),
-        (9, on("read 1 0 -")),
-        (3, on("write 0 0 1").short_tables()),
-        (4, on("write 4 0 1")),
-        (5, on("write 0 2 1")),
-        (9, on("write 1 0 1")),
-        (3, on("commit 0 - -").short_tables()),
-        (4, on("commit 4 - -")),
-        (9, on("commit 1 - -")),
-        (4, on("giveup 4 - -")),
-        (9, on("giveup 1 - -")),
-        (4, on("finish 4 - -")),
-        (7, on("finish 2 - -")),
-        (8, on("finish 0 - -")),
-    ] {
-        rows.push((2, larger.clone().unsound(), number, larger));
-    }
-    for (number, line) in [
-        (4, "read 4 0 -"),
-        (5, "read 0 2 -"),
-        (9, "read 1 0 -"),
-        (4, "write 4 0 1"),
-        (5, "write 0 2 1"),
-        (9, "write 1 0 1"),
-        (4, "commit 4 - -"),
-        (9, "commit 1 - -"),
-    ] {
-        rows.push((3, on(line).short_tables(), number, on(line)));
-    }
-    for (number, both, larger, mended) in [
-        (4, "read 4 2 -", 5, "read 0 2 -"),
-        (4, "write 4 2 1", 5, "write 0 2 1"),
-        (5, "read 1 2 -", 9, "read 1 0 -"),
-        (5, "write 1 2 1", 9, "write 1 0 1"),
-    ] {
-        rows.push((number, on(both), larger, on(mended)));
-    }
+/// Two rows that apply at once: the smaller number, a situation where both do,
+/// the larger number, and a situation where only that one does.
+type Pair = (u32, Situation, u32, Situation);
+
+/// Refusal 2 with each row below it.
+fn pairs_with_unsound() -> Vec<Pair> {
+    let below = rows()
+        .into_iter()
+        .filter(|(number, situation)| *number > 2 && !matches!(situation.call, Call::Setup { .. }));
+    below.map(|(number, larger)| (2, larger.clone().unsound(), number, larger)).collect()
+}
+
+/// Refusal 3 with each row below it, and refusal 1 with 3.
+fn pairs_with_short_tables() -> Vec<Pair> {
+    let below = rows().into_iter().filter(|(number, situation)| {
+        let lent =
+            matches!(situation.call, Call::Read { .. } | Call::Write { .. } | Call::Commit { .. });
+        *number > 3 && lent
+    });
+    let with =
+        |(number, larger): (u32, Situation)| (3, larger.clone().short_tables(), number, larger);
+    let mut pairs: Vec<Pair> = below.map(with).collect();
+    let short = |line| Situation { committed: 1, ..on(line) };
+    pairs.push((1, short("setup 0 2 -"), 3, short("setup 1 2 -")));
+    pairs
+}
+
+/// The other pairs that can apply at once.
+fn other_pairs() -> Vec<Pair> {
     let spent = |line| on(line).tickets_spent();
-    for (number, both) in [(4, "begin 4 - -"), (7, "begin 2 - -"), (8, "begin 0 - -")] {
-        rows.push((number, spent(both), 10, spent("begin 1 - -")));
-    }
-    rows
+    vec![
+        (4, on("read 4 2 -"), 5, on("read 0 2 -")),
+        (4, on("write 4 2 1"), 5, on("write 0 2 1")),
+        (5, on("read 1 2 -"), 9, on("read 1 0 -")),
+        (5, on("write 1 2 1"), 9, on("write 1 0 1")),
+        (4, spent("begin 4 - -"), 10, spent("begin 1 - -")),
+        (7, spent("begin 2 - -"), 10, spent("begin 1 - -")),
+        (8, spent("begin 0 - -"), 10, spent("begin 1 - -")),
+    ]
 }
 
 #[test]
 fn the_smallest_number_is_given() {
-    for (smaller, both, larger, mended) in two_at_once() {
+    let pairs = [pairs_with_unsound(), pairs_with_short_tables(), other_pairs()].concat();
+    for (smaller, both, larger, mended) in pairs {
         assert!(smaller < larger);
         assert_eq!(both.answer(), Answer::Refused(smaller), "{:?}", both.call);
         assert_eq!(mended.answer(), Answer::Refused(larger), "{:?}", mended.call);

@@ -9,7 +9,8 @@ use crate::sound::sound;
 /// What a condition leaves to go on with, or the refusal number.
 pub(super) type Admitted<T> = Result<T, u32>;
 
-fn unless(condition: bool, number: u32) -> Admitted<()> {
+/// Refuses with the number if its condition holds.
+fn refuse_if(condition: bool, number: u32) -> Admitted<()> {
     if condition {
         Err(number)
     } else {
@@ -20,29 +21,29 @@ fn unless(condition: bool, number: u32) -> Admitted<()> {
 impl Record {
     /// Refusal 2: record unsound.
     pub(super) fn admit_sound(&self) -> Admitted<()> {
-        unless(!sound(self), refusal::UNSOUND)
+        refuse_if(!sound(self), refusal::UNSOUND)
     }
 
     /// Refusal 3: either table's length is wrong.
     pub(super) fn admit_tables(&self, committed: &[u32], pending: &[u32]) -> Admitted<()> {
-        unless(!lengths_fit(self.cores, self.objects, committed, pending), refusal::TABLE_LENGTH)
+        refuse_if(!lengths_fit(self.cores, self.objects, committed, pending), refusal::TABLE_LENGTH)
     }
 
     /// Refusal 4: no such core.
     pub(super) fn admit_core(&self, core: u32) -> Admitted<usize> {
-        unless(core >= self.cores, refusal::NO_CORE)?;
+        refuse_if(core >= self.cores, refusal::NO_CORE)?;
         Ok(core as usize)
     }
 
     /// Refusal 5: no such card.
     pub(super) fn admit_object(&self, object: u32) -> Admitted<usize> {
-        unless(object >= self.objects, refusal::NO_OBJECT)?;
+        refuse_if(object >= self.objects, refusal::NO_OBJECT)?;
         Ok(object as usize)
     }
 
     /// Refusal 6: core has 8 jobs.
     pub(super) fn admit_job(&self, core: usize) -> Admitted<()> {
-        unless(self.core[core].job_count >= MAX_JOBS, refusal::LIST_FULL)
+        refuse_if(self.core[core].job_count >= MAX_JOBS, refusal::LIST_FULL)
     }
 
     /// Refusal 7: core has no job.
@@ -52,17 +53,17 @@ impl Record {
 
     /// Refusal 8: transaction in progress.
     pub(super) fn admit_idle(&self, core: usize) -> Admitted<()> {
-        unless(self.core[core].in_progress, refusal::IN_PROGRESS)
+        refuse_if(self.core[core].in_progress, refusal::IN_PROGRESS)
     }
 
     /// Refusal 9: none in progress.
     pub(super) fn admit_in_progress(&self, core: usize) -> Admitted<()> {
-        unless(!self.core[core].in_progress, refusal::NONE_IN_PROGRESS)
+        refuse_if(!self.core[core].in_progress, refusal::NONE_IN_PROGRESS)
     }
 
     /// Refusal 10: 4,294,967,295 tickets given.
     pub(super) fn admit_ticket(&self) -> Admitted<()> {
-        unless(self.tickets == MAX_TICKETS, refusal::TICKETS_SPENT)
+        refuse_if(self.tickets == MAX_TICKETS, refusal::TICKETS_SPENT)
     }
 }
 

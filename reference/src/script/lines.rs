@@ -36,7 +36,7 @@ impl<R: Read> Lines<R> {
         let mut kept = 0;
         let mut ended = false;
         while !ended && !self.at_end()? {
-            let (taken, newline) = self.take_part(kept)?;
+            let (taken, newline) = self.take_part(kept);
             kept += taken;
             ended = newline;
         }
@@ -45,7 +45,7 @@ impl<R: Read> Lines<R> {
 
     /// Takes the rest of the line, or of the chunk if that ends first. Answers
     /// how many bytes were kept and whether the newline was met.
-    fn take_part(&mut self, kept: usize) -> io::Result<(usize, bool)> {
+    fn take_part(&mut self, kept: usize) -> (usize, bool) {
         let chunk = self.input.buffer();
         let newline = chunk.iter().position(|&byte| byte == b'\n');
         let part = &chunk[..newline.unwrap_or(chunk.len())];
@@ -53,7 +53,7 @@ impl<R: Read> Lines<R> {
         self.line[kept..kept + fits].copy_from_slice(&part[..fits]);
         let used = part.len() + usize::from(newline.is_some());
         self.input.consume(used);
-        Ok((fits, newline.is_some()))
+        (fits, newline.is_some())
     }
 
     /// The bytes at hand, after asking for more if there were none.

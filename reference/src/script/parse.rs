@@ -21,34 +21,27 @@ pub fn parse_names(line: &[u8]) -> Option<Names> {
     Some(Names(places))
 }
 
-/// The call that a line of values makes, or none if the line is malformed.
+/// The call that a line of values makes, or none if the line is malformed. An
+/// unused field is `-`.
 pub fn parse_call(names: Names, line: &[u8]) -> Option<Call> {
     let fields = split(line)?;
     let [call, core, card, value] = names.0.map(|place| fields[place]);
     let core = number(core)?;
-    Some(match call {
-        b"setup" => Call::Setup { cores: core, objects: number(card)? },
-        b"release" => {
-            Call::Release { core, job: number(card)?.try_into().ok()?, deadline: number(value)? }
+    Some(match (call, card, value) {
+        (b"setup", card, b"-") => Call::Setup { cores: core, objects: number(card)? },
+        (b"release", card, value) => {
+            Call::Release { core, job: job_number(card)?, deadline: number(value)? }
         }
-        b"begin" => Call::Begin { core },
-        b"read" => Call::Read { core, object: number(card)? },
-        b"write" => Call::Write { core, object: number(card)?, value: number(value)? },
-        b"commit" => Call::Commit { core },
-        b"giveup" => Call::GiveUp { core },
-        b"finish" => Call::Finish { core },
+        (b"begin", b"-", b"-") => Call::Begin { core },
+        (b"read", card, b"-") => Call::Read { core, object: number(card)? },
+        (b"write", card, value) => {
+            Call::Write { core, object: number(card)?, value: number(value)? }
+        }
+        (b"commit", b"-", b"-") => Call::Commit { core },
+        (b"giveup", b"-", b"-") => Call::GiveUp { core },
+        (b"finish", b"-", b"-") => Call::Finish { core },
         _ => return None,
     })
-    .filter(|call| unused_are_dashes(call, card, value))
-}
-
-/// An unused field is `-`.
-fn unused_are_dashes(call: &Call, card: &[u8], value: &[u8]) -> bool {
-    match call {
-        Call::Release { .. } | Call::Write { .. } => true,
-        Call::Setup { .. } | Call::Read { .. } => value == b"-",
-        _ => card == b"-" && value == b"-",
-    }
 }
 
 /// The four fields of a line that is not too long, one space between. Where
@@ -70,4 +63,9 @@ fn number(field: &[u8]) -> Option<u32> {
         return None;
     }
     std::str::from_utf8(field).ok()?.parse().ok()
+}
+
+/// A job number: at most 65,535.
+fn job_number(field: &[u8]) -> Option<u16> {
+    number(field)?.try_into().ok()
 }
