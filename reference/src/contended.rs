@@ -50,10 +50,14 @@ pub struct Contention {
     length: u32,
     /// All attempts have this length, and all begin at the start.
     even: bool,
-    /// Shares of a hundred.
+    /// The share of any calls at all, many of them refused, in a hundred.
     odd: u32,
+    /// The share of writes among reads and writes, in a hundred.
     writes: u32,
+    /// The share of give-ups among commits, in a hundred.
     give_ups: u32,
+    /// The objects that most reads and writes go to.
+    hot: Vec<u32>,
     seats: Vec<Seat>,
 }
 
@@ -75,6 +79,7 @@ impl Contention {
             odd: if even { 0 } else { *random.pick(&[0, 5, 20]) },
             writes: *random.pick(&[20, 50, 90, 100]),
             give_ups: if even { 0 } else { *random.pick(&[0, 0, 5]) },
+            hot: [0, 1, 31, 32, 62, 63].into_iter().filter(|&object| object < objects).collect(),
             seats: vec![Seat::default(); cores as usize],
             random,
         }
@@ -155,19 +160,27 @@ impl Contention {
     }
 
     fn release(&mut self, core: u32) -> Call {
-        Call::Release {
-            core,
-            job: self.random.below(65_536) as u16,
-            deadline: self.random.below(5),
-        }
+        Call::Release { core, job: self.random.below(65_536) as u16, deadline: self.word() }
     }
 
     fn access(&mut self, core: u32) -> Call {
-        let object = self.random.below(self.objects);
+        let any_object = self.random.below(self.objects);
+        let hot_object = *self.random.pick(&self.hot);
+        let object = if self.random.percent(80) { hot_object } else { any_object };
         if self.random.percent(self.writes) {
-            Call::Write { core, object, value: 1 + self.random.below(9) }
+            Call::Write { core, object, value: self.word() }
         } else {
             Call::Read { core, object }
+        }
+    }
+
+    /// A small number, so that equal ones are met, or one near the limit.
+    fn word(&mut self) -> u32 {
+        let small = self.random.below(10);
+        if self.random.percent(90) {
+            small
+        } else {
+            u32::MAX - small
         }
     }
 
@@ -179,7 +192,7 @@ impl Contention {
             0 => self.release(core),
             1 => Call::Begin { core },
             2 => Call::Read { core, object },
-            3 => Call::Write { core, object, value: self.random.below(3) },
+            3 => Call::Write { core, object, value: self.word() },
             4 => Call::Commit { core },
             5 => Call::GiveUp { core },
             _ => Call::Finish { core },
@@ -188,16 +201,14 @@ impl Contention {
 
     /// Remembers what an answer says about the core that called.
     fn hear(&mut self, call: Call, answer: Answer) {
-        let planned = match self.even {
-            true => self.length,
-            false => self.random.below(self.length + 1),
-        };
+        let any_length = self.random.below(self.length + 1);
+        let planned = if self.even { self.length } else { any_length };
         let Some(seat) = call.core().and_then(|core| self.seats.get_mut(core as usize)) else {
             return;
         };
         match answer {
             Answer::Running | Answer::Queued => seat.jobs += 1,
-            Answer::Finished(_) => seat.jobs -= 1,
+            Answer::Finished(_) => seat.jobs = seat.jobs.saturating_sub(1),
             Answer::Value { .. } | Answer::Written => seat.done += 1,
             Answer::Begun(_) | Answer::SetBack => {
                 seat.open = true;
