@@ -346,12 +346,3 @@ fn an_attempt_starts_at_the_strike() {
     let waits = report(&with(&steps[..9], 8, "waits -"));
     assert_eq!(broken(&waits), [(8, Claim::WaitsForEarlier, Some(2))]);
 }
-
-#[test]
-fn a_refused_setup_leaves_only_refusals() {
-    let script = format!("{NAMES}\nsetup 1 1 -\nsetup 0 1 -\nbegin 0 - -\n");
-    let listing = |last: &str| format!("line answer value\n2 ready -\n3 refused 1\n4 {last}\n");
-    let runs = |last: &str| listed_runs(script.as_bytes(), listing(last).as_bytes()).expect("runs");
-    assert_eq!(broken(&check(&runs("refused 2")[1].run)), []);
-    assert_eq!(runs("refused 2").len(), 2);
-}
