@@ -3,7 +3,7 @@
 mod common;
 
 use cards_reference::answer::Answer;
-use cards_reference::machine::Machine;
+use cards_reference::machine::{dispatch, Machine};
 use common::{answers, call, machine};
 
 fn say(machine: &mut Machine, line: &str) -> Answer {
@@ -142,4 +142,50 @@ fn finish_keeps_the_order_of_the_others() {
         "finished 1",
     ];
     assert_eq!(answers(&lines)[1..], expected);
+}
+
+#[test]
+fn reads_and_writes_join_their_sets() {
+    let mut machine = machine(&READY);
+    for (line, read_set, write_set) in [
+        ("write 1 1 8", 0b00, 0b10),
+        ("read 1 1 -", 0b10, 0b10),
+        ("read 1 0 -", 0b11, 0b10),
+        ("write 1 0 3", 0b11, 0b11),
+    ] {
+        say(&mut machine, line);
+        let core = machine.record.core[1];
+        assert_eq!((core.read_set, core.write_set), (read_set, write_set), "{line}");
+    }
+}
+
+#[test]
+fn a_strike_changes_sets_aborts_and_mark_and_nothing_else() {
+    let lines = ["read 1 0 -", "write 1 1 4", "read 2 1 -", "write 0 0 6"];
+    let mut machine = machine(&[&READY[..], &lines].concat());
+    let mut expected = machine.record;
+    say(&mut machine, "commit 0 - -");
+    let struck = &mut expected.core[1];
+    (struck.read_set, struck.write_set) = (0, 0);
+    (struck.aborts, struck.zombie) = (1, true);
+    expected.core[0] = expected.core[0].without_transaction();
+    expected.commits = 1;
+    expected.versions[0] = 1;
+    assert_eq!(machine.record, expected);
+    say(&mut machine, "write 1 1 9");
+    expected.core[1].zombie = false;
+    assert_eq!(machine.record, expected);
+}
+
+#[test]
+fn only_write_changes_a_pending_word_and_only_commit_a_committed_one() {
+    let record = machine(&[&READY[..], &["write 1 1 8"]].concat()).record;
+    for line in ["read 1 1 -", "read 1 0 -", "write 1 0 7", "commit 1 - -"] {
+        let (mut committed, mut pending) = ([10, 11], [20, 21, 22, 23, 24, 25]);
+        dispatch(record, call(line), &mut committed, &mut pending);
+        let written = line.starts_with("write");
+        let moved = line.starts_with("commit");
+        assert_eq!(committed, [10, if moved { 23 } else { 11 }], "{line}");
+        assert_eq!(pending, [20, 21, if written { 7 } else { 22 }, 23, 24, 25], "{line}");
+    }
 }
