@@ -6,17 +6,10 @@ use crate::calls::setup;
 use crate::record::{Record, MAX_CORES, MAX_OBJECTS};
 
 /// The record and the two tables as the last call left them.
-#[derive(Clone)]
 pub struct Machine {
     pub record: Record,
     committed: [u32; MAX_OBJECTS],
     pending: [u32; MAX_CORES * MAX_OBJECTS],
-}
-
-impl Default for Machine {
-    fn default() -> Machine {
-        Machine::blank()
-    }
 }
 
 impl Machine {

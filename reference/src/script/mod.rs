@@ -4,13 +4,14 @@ mod lines;
 mod listing;
 mod parse;
 
-pub use lines::{Lines, MAX_LINE};
-pub use listing::{listed, print_call, write_answer, HEADING};
+pub use listing::{listed, print_call, HEADING};
 pub use parse::{parse_call, parse_names, Names};
 
 use crate::answer::Answer;
 use crate::machine::Machine;
 use crate::refusal;
+use lines::Lines;
+use listing::write_answer;
 use std::io::{self, Read, Write};
 
 /// The last line that is read; the names line is line 1.
