@@ -9,8 +9,8 @@ use lib.Dec.{eqb, ltb}
 use lib.Pow.{pow-lt, pow-mono}
 use borrow.Author.Tests.{lt-ltb, le-ltb, ltb-true, ltb-false, eqb-true, eqb-false, eq-eqb, ne-eqb}
 use Rattle.objset.specs.Objset.{has, collect, added, joined, meeting, below}
-use Rattle.objset.specs.Digits.{has-or, has-and, has-mask, has-zero, has-past, collect-fits, has-collect, same-digits}
-use Rattle.objset.specs.Laws.{same-members, has-added, has-joined, added-fits, joined-fits, meeting-one, one-meeting, below-member, member-below, member-bound}
+use Rattle.objset.proofs.Digits.{has-or, has-and, has-mask, has-zero, has-past, collect-fits, has-collect, same-digits}
+use Rattle.objset.proofs.Laws.{same-members, has-added, has-joined, added-fits, joined-fits, meeting-one, one-meeting, below-member, member-below, member-bound}
 
 -- `a | b` is the union
 pub or-joined : (a b : ℕ) → a < 2 ^ 64 → b < 2 ^ 64 → bitOr a b ≡ joined a b

@@ -1,1 +1,4 @@
-pub mod Bitwise
+pub mod Digits
+pub mod Laws
+pub mod WordLaws
+mod Bitwise

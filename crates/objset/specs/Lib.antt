@@ -1,4 +1,2 @@
 pub mod Objset
-pub mod Digits
-pub mod Laws
 pub mod Words

@@ -5,7 +5,7 @@ use mathlib.Core.Bool.{not}
 use lib.Bits.{bitAnd}
 use lib.Dec.{eqb}
 use borrow.Author.Needs.{needs}
-use Rattle.objset.specs.Laws.{has-outside}
+use Rattle.objset.proofs.Laws.{has-outside}
 use Rattle.objset.proofs.Bitwise.{and-has}
 use Rattle.objset.proofs.contains.Statement.{statement}
 use Rattle.objset.proofs.contains.Tie as tie

@@ -1,6 +1,6 @@
 -- `objset::empty` meets its contract: the empty word is 0. Assumes nothing.
 use mathlib.Core.Path.{sym}
-use Rattle.objset.specs.Laws.{none-zero}
+use Rattle.objset.proofs.Laws.{none-zero}
 use Rattle.objset.proofs.empty.Statement.{statement}
 use Rattle.objset.proofs.empty.Tie as tie
 

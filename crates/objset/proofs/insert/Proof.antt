@@ -3,7 +3,7 @@ use mathlib.Core.Path.{_∙_, ap, sym}
 use Prim.Native.Nat.{ℕ}
 use lib.Bits.{bitOr}
 use borrow.Author.Needs.{needs}
-use Rattle.objset.specs.Laws.{added-outside}
+use Rattle.objset.proofs.Laws.{added-outside}
 use Rattle.objset.proofs.Bitwise.{or-added}
 use Rattle.objset.proofs.insert.Statement.{statement}
 use Rattle.objset.proofs.insert.Tie as tie

@@ -8,7 +8,7 @@ use lib.ListN.{getD}
 use borrow.Author.Needs.{needs}
 use borrow.Author.Tests.{eqb-true}
 use Rattle.objset.specs.Objset.{each}
-use Rattle.objset.specs.Laws.{each-one}
+use Rattle.objset.proofs.Laws.{each-one}
 use Rattle.objset.proofs.mask.Statement.{statement}
 use Rattle.objset.proofs.mask.Tie as tie
 

@@ -1,4 +1,4 @@
--- What callers may use of the definitions of Objset.antt: every law speaks of membership alone.
+-- What callers may use of the definitions of specs/Objset.antt: every law speaks of membership alone.
 -- A set is a word below 2 to the power 64, as each u64 is. Assumes nothing.
 use mathlib.Core.Path.{_≡_, refl, sym, ap, ap₂, _∙_, fun-ext}
 use mathlib.Core.Bool.{Bool, true, false, not, _&&_, _||_, true≢false}
@@ -7,7 +7,7 @@ use native.Mathlib.Omega.{arith}
 use lib.Dec.{eqb, ltb}
 use borrow.Author.Tests.{ltb-true, ltb-false, lt-ltb, le-ltb, eqb-true, eqb-false, ne-eqb}
 use Rattle.objset.specs.Objset.{has, collect, some, each, none, added, joined, meeting, below}
-use Rattle.objset.specs.Digits.{has-zero, has-past, same-digits, collect-fits, has-collect}
+use Rattle.objset.proofs.Digits.{has-zero, has-past, same-digits, collect-fits, has-collect}
 
 -- ---- tests over the first n objects
 

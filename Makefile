@@ -1,0 +1,16 @@
+# Two commands: `make run` runs the main job, `make test` is the whole test.
+
+.PHONY: run test clean
+
+# The script program `cards` is not built yet; until then this says so.
+run:
+	@echo "make run: the program 'cards' is not in this repository yet; the second implementation runs case A:"
+	@tests/tool.sh cargo
+	@cd reference && cargo build --quiet --release --offline
+	@reference/target/release/cards-reference < examples/case-a.script
+
+test:
+	@tests/run.sh
+
+clean:
+	rm -rf target build reference/target

@@ -1,0 +1,68 @@
+//! commit: the commit rule.
+
+use super::admit::Admitted;
+use crate::answer::Answer;
+use crate::record::Record;
+use crate::set::{only, Set};
+
+impl Record {
+    /// Set back for a zombie; waits if a conflicting transaction has a smaller
+    /// ticket, and nothing else changes; otherwise committed with the count of
+    /// aborts (setbacks).
+    pub fn commit(mut self, core: u32, committed: &mut [u32], pending: &[u32]) -> (Answer, Record) {
+        let c = match self.admit_commit(core, committed, pending) {
+            Ok(c) => c,
+            Err(number) => return (Answer::Refused(number), self),
+        };
+        if self.core[c].zombie {
+            return self.tell_set_back(c);
+        }
+        if let Some(ahead) = self.earlier_in_conflict(c) {
+            return (Answer::Waits { core: ahead as u32 }, self);
+        }
+        let ending = self.core[c];
+        self.core[c] = ending.without_transaction();
+        self.commits += 1;
+        self.publish(c, ending.write_set, committed, pending);
+        self.strike(ending.write_set);
+        (Answer::Committed(ending.aborts), self)
+    }
+
+    fn admit_commit(&self, core: u32, committed: &[u32], pending: &[u32]) -> Admitted<usize> {
+        self.admit_sound()?;
+        self.admit_tables(committed, pending)?;
+        let c = self.admit_core(core)?;
+        self.admit_in_progress(c)?;
+        Ok(c)
+    }
+
+    /// The first core that holds a conflicting transaction with a smaller ticket.
+    fn earlier_in_conflict(&self, core: usize) -> Option<usize> {
+        let own = &self.core[core];
+        self.present().iter().position(|other| {
+            other.in_progress && other.ticket < own.ticket && own.conflicts_with(other)
+        })
+    }
+
+    /// The write set's pending values become committed; each written object's
+    /// version rises by one, also when the value is equal.
+    fn publish(&mut self, core: usize, write_set: Set, committed: &mut [u32], pending: &[u32]) {
+        for object in (0..committed.len()).filter(|&d| write_set & only(d) != 0) {
+            committed[object] = pending[self.pending_place(core, object)];
+            self.versions[object] += 1;
+        }
+    }
+
+    /// Every transaction whose data set meets the write set is set back. The
+    /// one that committed has left its core before.
+    fn strike(&mut self, write_set: Set) {
+        for other in self.core.iter_mut() {
+            if other.data_set() & write_set != 0 {
+                other.read_set = 0;
+                other.write_set = 0;
+                other.aborts += 1;
+                other.zombie = true;
+            }
+        }
+    }
+}

@@ -1,0 +1,222 @@
+//! Contended runs by seed: few objects, many cores, some refused calls.
+
+use crate::answer::Answer;
+use crate::call::Call;
+use crate::checker::{Detail, Run};
+use crate::machine::Machine;
+use crate::random::Random;
+
+/// A machine that a run can be made on, and whose committed values can be seen.
+pub trait Subject {
+    fn call(&mut self, call: Call) -> Answer;
+    fn committed(&self) -> &[u32];
+}
+
+impl Subject for Machine {
+    fn call(&mut self, call: Call) -> Answer {
+        Machine::call(self, call)
+    }
+
+    fn committed(&self) -> &[u32] {
+        Machine::committed(self)
+    }
+}
+
+/// Whose turn it is to call.
+#[derive(Clone, Copy)]
+enum Turns {
+    Any,
+    Rising,
+    Falling,
+}
+
+/// What the generator remembers of a core, from the answers it heard.
+#[derive(Clone, Copy, Default)]
+struct Seat {
+    jobs: u32,
+    open: bool,
+    done: u32,
+    planned: u32,
+}
+
+/// Makes up calls, and hears their answers.
+pub struct Contention {
+    pub cores: u32,
+    pub objects: u32,
+    random: Random,
+    turns: Turns,
+    turn: u32,
+    /// Reads and writes before an attempt asks to commit, at most.
+    length: u32,
+    /// All attempts have this length, and all begin at the start.
+    even: bool,
+    /// The share of any calls at all, many of them refused, in a hundred.
+    odd: u32,
+    /// The share of writes among reads and writes, in a hundred.
+    writes: u32,
+    /// The share of give-ups among commits, in a hundred.
+    give_ups: u32,
+    /// The objects that most reads and writes go to.
+    hot: Vec<u32>,
+    seats: Vec<Seat>,
+}
+
+impl Contention {
+    /// Chooses the shape of the run by the seed.
+    pub fn new(seed: u64) -> Contention {
+        let mut random = Random::new(seed);
+        let most_cores = *random.pick(&[2, 4, 4, 8, 16]);
+        let cores = 1 + random.below(most_cores);
+        let objects = *random.pick(&[1, 1, 2, 2, 3, 4, 8, 64]);
+        let even = random.percent(30);
+        Contention {
+            cores,
+            objects,
+            turns: *random.pick(&[Turns::Any, Turns::Any, Turns::Rising, Turns::Falling]),
+            turn: 0,
+            length: *random.pick(&[1, 2, 3, 5, 8]),
+            even,
+            odd: if even { 0 } else { *random.pick(&[0, 5, 20]) },
+            writes: *random.pick(&[20, 50, 90, 100]),
+            give_ups: if even { 0 } else { *random.pick(&[0, 0, 5]) },
+            hot: [0, 1, 31, 32, 62, 63].into_iter().filter(|&object| object < objects).collect(),
+            seats: vec![Seat::default(); cores as usize],
+            random,
+        }
+    }
+
+    /// Makes a setup and then so many calls on the subject.
+    pub fn run(&mut self, subject: &mut impl Subject, calls: usize) -> Run {
+        let (cores, objects) = (self.cores, self.objects);
+        let ready = subject.call(Call::Setup { cores, objects });
+        assert_eq!(ready, Answer::Ready, "the setup of a run is accepted");
+        let mut steps = Vec::with_capacity(calls);
+        let mut tables = Vec::new();
+        for number in 0..calls {
+            let call = self.opening(number).unwrap_or_else(|| self.next_call());
+            let answer = subject.call(call);
+            self.hear(call, answer);
+            steps.push((call, answer));
+            if let Answer::Committed(_) = answer {
+                tables.push(subject.committed().to_vec());
+            }
+        }
+        Run {
+            cores,
+            objects,
+            steps,
+            detail: Detail::Whole,
+            tables: Some(tables),
+            last_table: Some(subject.committed().to_vec()),
+        }
+    }
+
+    /// An even run lets every core release and begin, in order, first.
+    fn opening(&mut self, number: usize) -> Option<Call> {
+        let core = (number / 2) as u32;
+        let opens = self.even && core < self.cores;
+        opens.then(|| match number % 2 {
+            0 => self.release(core),
+            _ => Call::Begin { core },
+        })
+    }
+
+    fn next_call(&mut self) -> Call {
+        if self.random.percent(self.odd) {
+            return self.any_call();
+        }
+        let core = self.next_core();
+        let seat = self.seats[core as usize];
+        if !seat.open {
+            return self.idle_call(core, seat);
+        }
+        if seat.done < seat.planned {
+            self.access(core)
+        } else if self.random.percent(self.give_ups) {
+            Call::GiveUp { core }
+        } else {
+            Call::Commit { core }
+        }
+    }
+
+    fn next_core(&mut self) -> u32 {
+        self.turn = (self.turn + 1) % self.cores;
+        match self.turns {
+            Turns::Any => self.random.below(self.cores),
+            Turns::Rising => self.turn,
+            Turns::Falling => self.cores - 1 - self.turn,
+        }
+    }
+
+    /// What a core without a transaction does: mostly it begins one.
+    fn idle_call(&mut self, core: u32, seat: Seat) -> Call {
+        if seat.jobs == 0 || (seat.jobs < 8 && self.random.percent(10)) {
+            self.release(core)
+        } else if self.random.percent(15) {
+            Call::Finish { core }
+        } else {
+            Call::Begin { core }
+        }
+    }
+
+    fn release(&mut self, core: u32) -> Call {
+        Call::Release { core, job: self.random.below(65_536) as u16, deadline: self.word() }
+    }
+
+    fn access(&mut self, core: u32) -> Call {
+        let any_object = self.random.below(self.objects);
+        let hot_object = *self.random.pick(&self.hot);
+        let object = if self.random.percent(80) { hot_object } else { any_object };
+        if self.random.percent(self.writes) {
+            Call::Write { core, object, value: self.word() }
+        } else {
+            Call::Read { core, object }
+        }
+    }
+
+    /// A small number, so that equal ones are met, or one near the limit.
+    fn word(&mut self) -> u32 {
+        let small = self.random.below(10);
+        if self.random.percent(90) {
+            small
+        } else {
+            u32::MAX - small
+        }
+    }
+
+    /// Any of the seven calls, on cores and objects that may not exist.
+    fn any_call(&mut self) -> Call {
+        let core = self.random.below(self.cores + 1);
+        let object = self.random.below(self.objects + 1);
+        match self.random.below(7) {
+            0 => self.release(core),
+            1 => Call::Begin { core },
+            2 => Call::Read { core, object },
+            3 => Call::Write { core, object, value: self.word() },
+            4 => Call::Commit { core },
+            5 => Call::GiveUp { core },
+            _ => Call::Finish { core },
+        }
+    }
+
+    /// Remembers what an answer says about the core that called.
+    fn hear(&mut self, call: Call, answer: Answer) {
+        let any_length = self.random.below(self.length + 1);
+        let planned = if self.even { self.length } else { any_length };
+        let Some(seat) = call.core().and_then(|core| self.seats.get_mut(core as usize)) else {
+            return;
+        };
+        match answer {
+            Answer::Running | Answer::Queued => seat.jobs += 1,
+            Answer::Finished(_) => seat.jobs = seat.jobs.saturating_sub(1),
+            Answer::Value { .. } | Answer::Written => seat.done += 1,
+            Answer::Begun(_) | Answer::SetBack => {
+                seat.open = true;
+                seat.done = 0;
+                seat.planned = planned;
+            }
+            Answer::Committed(_) | Answer::Ended => seat.open = false,
+            Answer::Ready | Answer::Waits { .. } | Answer::Refused(_) => {}
+        }
+    }
+}

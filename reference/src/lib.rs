@@ -1,0 +1,30 @@
+//! Second implementation of the shared cards machine, written from document 01
+//! alone, and the checks that stand beside it.
+//!
+//! - the machine: `call`, `answer`, `refusal`, `set`, `record`, `sound`,
+//!   `calls`
+//! - the script program: `machine`, `script`
+//! - whole runs judged from calls and answers: `checker`, `replay`,
+//!   `listed_runs`
+//! - inputs by seed: `random`, `contended`, `scripts`, `shrink`
+//!
+//! The code says object for card, abort for setback and zombie for marked.
+
+#![forbid(unsafe_code)]
+
+pub mod answer;
+pub mod call;
+pub mod calls;
+pub mod checker;
+pub mod contended;
+pub mod listed_runs;
+pub mod machine;
+pub mod random;
+pub mod record;
+pub mod refusal;
+pub mod replay;
+pub mod script;
+pub mod scripts;
+pub mod set;
+pub mod shrink;
+pub mod sound;

@@ -1,0 +1,133 @@
+//! Scripts by seed, as bytes: contended, refused, malformed in every way that
+//! document 01 names, long, in every order of names.
+
+use crate::call::Call;
+use crate::contended::Contention;
+use crate::machine::Machine;
+use crate::random::Random;
+use crate::script::{print_call, MAX_LINES};
+
+mod spoil;
+
+/// The four names.
+const NAMES: [&str; 4] = ["call", "core", "card", "value"];
+
+/// One script in so many has lines up to the last that is read, or one more.
+pub const LONGEST_ONE_IN: u32 = 2_000;
+
+/// The 24 orders of the names, each as places in the order call, core, card,
+/// value.
+pub fn orders() -> Vec<[usize; 4]> {
+    let mut orders = Vec::new();
+    for code in 0..256 {
+        let order = [code / 64, code / 16 % 4, code / 4 % 4, code % 4];
+        if (0..4).all(|name| order.contains(&name)) {
+            orders.push(order);
+        }
+    }
+    orders
+}
+
+/// The fields in this order, one space between.
+pub fn arrange(order: [usize; 4], fields: &[String; 4]) -> Vec<u8> {
+    order.map(|place| fields[place].as_str()).join(" ").into_bytes()
+}
+
+/// The names line for this order.
+pub fn names_line(order: [usize; 4]) -> Vec<u8> {
+    arrange(order, &NAMES.map(str::to_string))
+}
+
+/// The script of this seed.
+pub fn script(seed: u64) -> Vec<u8> {
+    let mut random = Random::new(seed);
+    if random.below(LONGEST_ONE_IN) == 0 {
+        return longest(&mut random);
+    }
+    let order = *random.pick(&orders());
+    let mut lines = vec![names_line(order)];
+    match random.below(20) {
+        0 => return few_bytes(&mut random),
+        1 => lines[0] = spoil::bad_names(&mut random, &lines[0]),
+        _ => {}
+    }
+    for _ in 0..1 + random.below(3) {
+        let calls = body(&mut random);
+        lines.extend(calls.into_iter().map(|call| arrange(order, &print_call(call))));
+    }
+    if random.percent(50) {
+        let share = *random.pick(&[2, 10, 50]);
+        spoil::some_lines(&mut random, share, &mut lines);
+    }
+    join(&mut random, &lines)
+}
+
+/// Calls that belong together: a contended run or calls with any numbers.
+fn body(random: &mut Random) -> Vec<Call> {
+    match random.below(8) {
+        0 => (0..random.below(40)).map(|_| any_call(random)).collect(),
+        1 => contended(random, 3_000),
+        _ => contended(random, 120),
+    }
+}
+
+/// A setup and a contended run after it.
+fn contended(random: &mut Random, most: u32) -> Vec<Call> {
+    let mut contention = Contention::new(random.bits());
+    let length = random.below(most) as usize;
+    let mut calls = vec![Call::Setup { cores: contention.cores, objects: contention.objects }];
+    let run = contention.run(&mut Machine::blank(), length);
+    calls.extend(run.steps.into_iter().map(|(call, _)| call));
+    calls
+}
+
+/// Any of the eight calls with numbers at and around the limits.
+fn any_call(random: &mut Random) -> Call {
+    const CORES: [u32; 8] = [0, 0, 1, 15, 16, 17, 65_536, u32::MAX];
+    const OBJECTS: [u32; 9] = [0, 0, 1, 63, 64, 65, 65_535, 65_536, u32::MAX];
+    const VALUES: [u32; 6] = [0, 1, 9, 10, u32::MAX - 1, u32::MAX];
+    let core = *random.pick(&CORES);
+    let object = *random.pick(&OBJECTS);
+    let value = *random.pick(&VALUES);
+    match random.below(8) {
+        0 => Call::Setup { cores: core, objects: object },
+        1 => Call::Release {
+            core,
+            job: *random.pick(&[0, 1, 9, 10, 65_534, 65_535]),
+            deadline: value,
+        },
+        2 => Call::Begin { core },
+        3 => Call::Read { core, object },
+        4 => Call::Write { core, object, value },
+        5 => Call::Commit { core },
+        6 => Call::GiveUp { core },
+        _ => Call::Finish { core },
+    }
+}
+
+/// Inputs of almost nothing.
+fn few_bytes(random: &mut Random) -> Vec<u8> {
+    let names = names_line(*random.pick(&orders()));
+    let ended = [names.as_slice(), b"\n"].concat();
+    let inputs: [&[u8]; 7] = [b"", b"\n", b"\n\n", b"\r\n", b"\0", &names, &ended];
+    random.pick(&inputs).to_vec()
+}
+
+/// A script that ends just before, at or just after the last line read. Its
+/// last line is empty, or a call, with or without a newline.
+fn longest(random: &mut Random) -> Vec<u8> {
+    let mut script = b"call core card value\nsetup 1 1 -\n".to_vec();
+    let lines = MAX_LINES as usize - 1 + random.place(3);
+    script.resize(script.len() + lines - 3, b'\n');
+    script.extend_from_slice(random.pick::<&[u8]>(&[b"\n", b"begin 0 - -", b"begin 0 - -\n"]));
+    script
+}
+
+/// Lines with newlines between, the last one with or without.
+fn join(random: &mut Random, lines: &[Vec<u8>]) -> Vec<u8> {
+    let mut script = lines.join(&b'\n');
+    if random.percent(70) {
+        script.push(b'\n');
+    }
+    script
+}

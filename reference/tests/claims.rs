@@ -1,0 +1,348 @@
+//! Each claim of the checker, on runs made by hand: one that breaks it, and a
+//! twin that does not.
+
+mod common;
+
+use cards_reference::answer::Answer;
+use cards_reference::checker::{check, Claim, Detail, Nearest, Report, Run};
+use cards_reference::listed_runs::listed_runs;
+use common::{call, NAMES};
+
+/// The run that these script lines and their listed answers show, after a
+/// setup of 3 cores and 3 objects. Jobs are left out; no claim speaks of them.
+fn listed(steps: &[(&str, &str)]) -> Run {
+    let mut script = format!("{NAMES}\nsetup 3 3 -\n");
+    let mut listing = "line answer value\n2 ready -\n".to_string();
+    for (place, (line, answer)) in steps.iter().enumerate() {
+        script += &format!("{line}\n");
+        listing += &format!("{} {answer}\n", place + 3);
+    }
+    let runs = listed_runs(script.as_bytes(), listing.as_bytes());
+    runs.expect("a listing that fits").remove(0).run
+}
+
+fn report(steps: &[(&str, &str)]) -> Report {
+    check(&listed(steps))
+}
+
+/// The broken claims as call, claim and transaction.
+fn broken(report: &Report) -> Vec<(usize, Claim, Option<usize>)> {
+    let parts = |b: &cards_reference::checker::Broken| (b.call, b.claim, b.transaction);
+    report.broken.iter().map(parts).collect()
+}
+
+/// The steps with one answer changed.
+fn with<'a>(
+    steps: &[(&'a str, &'a str)],
+    place: usize,
+    answer: &'a str,
+) -> Vec<(&'a str, &'a str)> {
+    let mut steps = steps.to_vec();
+    steps[place].1 = answer;
+    steps
+}
+
+#[test]
+fn answer_fits() {
+    for steps in [
+        [("begin 0 - -", "begun 0"), ("read 0 0 -", "written -")],
+        [("begin 0 - -", "begun 0"), ("begin 0 - -", "begun 1")],
+        [("begin 0 - -", "begun 0"), ("read 1 0 -", "value 0")],
+        [("begin 0 - -", "begun 0"), ("read 0 3 -", "value 0")],
+        [("begin 0 - -", "begun 0"), ("write 3 0 1", "written -")],
+        [("begin 0 - -", "begun 0"), ("giveup 0 - -", "committed 0")],
+        [("begin 0 - -", "begun 0"), ("giveup 0 - -", "setback -")],
+        [("begin 0 - -", "begun 0"), ("finish 1 - -", "running -")],
+    ] {
+        assert_eq!(broken(&report(&steps)), [(1, Claim::AnswerFits, None)], "{steps:?}");
+    }
+}
+
+const SERIAL: [(&str, &str); 6] = [
+    ("begin 0 - -", "begun 0"),
+    ("write 0 0 5", "written -"),
+    ("commit 0 - -", "committed 0"),
+    ("begin 1 - -", "begun 1"),
+    ("read 1 0 -", "value 5"),
+    ("commit 1 - -", "committed 0"),
+];
+
+#[test]
+fn serial_reads() {
+    assert_eq!(broken(&report(&SERIAL)), []);
+    let old = report(&with(&SERIAL, 4, "value 0"));
+    assert_eq!(broken(&old), [(4, Claim::SerialReads, Some(1))]);
+}
+
+#[test]
+fn serial_reads_of_own_writes() {
+    let steps = [
+        ("begin 0 - -", "begun 0"),
+        ("write 0 0 5", "written -"),
+        ("read 0 0 -", "value 5"),
+        ("commit 0 - -", "committed 0"),
+    ];
+    assert_eq!(broken(&report(&steps)), []);
+    let lost = report(&with(&steps, 2, "value 0"));
+    assert_eq!(broken(&lost), [(2, Claim::SerialReads, Some(0))]);
+}
+
+#[test]
+fn serial_table() {
+    let mut run = listed(&SERIAL);
+    run.tables = Some(vec![vec![5, 0, 0], vec![5, 0, 0]]);
+    run.last_table = Some(vec![5, 0, 0]);
+    assert_eq!(broken(&check(&run)), []);
+    run.last_table = Some(vec![5, 0, 1]);
+    assert_eq!(broken(&check(&run)), [(5, Claim::SerialTable, None)]);
+    run.last_table = None;
+    run.tables = Some(vec![vec![0, 0, 0], vec![5, 0, 0]]);
+    assert_eq!(broken(&check(&run)), [(2, Claim::SerialTable, Some(0))]);
+}
+
+const TOGETHER: [(&str, &str); 10] = [
+    ("begin 0 - -", "begun 0"),
+    ("begin 1 - -", "begun 1"),
+    ("read 1 0 -", "value 0"),
+    ("write 0 0 5", "written -"),
+    ("write 0 1 5", "written -"),
+    ("commit 0 - -", "committed 0"),
+    ("commit 1 - -", "setback -"),
+    ("read 1 0 -", "value 5"),
+    ("read 1 1 -", "value 5"),
+    ("giveup 1 - -", "ended -"),
+];
+
+#[test]
+fn stood_together() {
+    assert_eq!(broken(&report(&TOGETHER)), []);
+    let mixed = with(&TOGETHER, 7, "value 0");
+    let expected = [(8, Claim::StoodTogether, Some(1))];
+    assert_eq!(broken(&report(&mixed)), expected);
+    assert_eq!(broken(&report(&mixed[..9])), expected, "also while it is open");
+}
+
+#[test]
+fn values_of_a_later_commit_did_not_stand_yet() {
+    let steps = [
+        ("begin 0 - -", "begun 0"),
+        ("begin 1 - -", "begun 1"),
+        ("read 1 0 -", "value 5"),
+        ("giveup 1 - -", "ended -"),
+        ("write 0 0 5", "written -"),
+        ("commit 0 - -", "committed 0"),
+    ];
+    let expected = [(2, Claim::StoodTogether, Some(1))];
+    assert_eq!(broken(&report(&steps)), expected);
+}
+
+/// A run whose answers show everything.
+fn whole(steps: &[(&str, Answer)]) -> Run {
+    Run {
+        cores: 3,
+        objects: 3,
+        steps: steps.iter().map(|&(line, answer)| (call(line), answer)).collect(),
+        detail: Detail::Whole,
+        tables: None,
+        last_table: None,
+    }
+}
+
+#[test]
+fn versions() {
+    let run = |version| {
+        whole(&[
+            ("begin 0 - -", Answer::Begun(0)),
+            ("write 0 0 5", Answer::Written),
+            ("write 0 0 6", Answer::Written),
+            ("commit 0 - -", Answer::Committed(0)),
+            ("begin 0 - -", Answer::Begun(1)),
+            ("write 0 0 7", Answer::Written),
+            ("read 0 0 -", Answer::Value { value: 7, version }),
+        ])
+    };
+    assert_eq!(broken(&check(&run(1))), []);
+    for wrong in [0, 2] {
+        let expected = [(6, Claim::Versions, Some(1))];
+        assert_eq!(broken(&check(&run(wrong))), expected);
+    }
+}
+
+#[test]
+fn a_struck_first_shows_in_three_claims() {
+    let steps = [
+        ("begin 0 - -", "begun 0"),
+        ("begin 1 - -", "begun 1"),
+        ("read 0 0 -", "value 0"),
+        ("write 1 0 5", "written -"),
+        ("commit 1 - -", "waits -"),
+    ];
+    assert_eq!(broken(&report(&steps)), []);
+    let expected = [
+        (4, Claim::StrikesAtMostK, Some(0)),
+        (4, Claim::StruckByEarlier, Some(0)),
+        (4, Claim::CommitsInTurn, Some(1)),
+    ];
+    assert_eq!(broken(&report(&with(&steps, 4, "committed 0"))), expected);
+}
+
+#[test]
+fn waits_for_earlier() {
+    let readers = [
+        ("begin 0 - -", "begun 0"),
+        ("begin 1 - -", "begun 1"),
+        ("read 0 0 -", "value 0"),
+        ("read 1 0 -", "value 0"),
+        ("commit 1 - -", "waits -"),
+    ];
+    let expected = [(4, Claim::WaitsForEarlier, Some(1))];
+    assert_eq!(broken(&report(&readers)), expected);
+    assert_eq!(broken(&report(&with(&readers, 4, "committed 0"))), []);
+
+    let for_later = [
+        ("begin 0 - -", "begun 0"),
+        ("begin 1 - -", "begun 1"),
+        ("write 0 0 1", "written -"),
+        ("read 1 0 -", "value 0"),
+        ("commit 0 - -", "waits -"),
+    ];
+    let expected = [(4, Claim::WaitsForEarlier, Some(0))];
+    assert_eq!(broken(&report(&for_later)), expected);
+}
+
+#[test]
+fn waits_names_earlier() {
+    let run = |core| {
+        whole(&[
+            ("begin 1 - -", Answer::Begun(0)),
+            ("begin 0 - -", Answer::Begun(1)),
+            ("begin 2 - -", Answer::Begun(2)),
+            ("write 1 0 1", Answer::Written),
+            ("write 0 0 1", Answer::Written),
+            ("write 2 0 1", Answer::Written),
+            ("commit 0 - -", Answer::Waits { core }),
+        ])
+    };
+    assert_eq!(broken(&check(&run(1))), []);
+    for wrong in [0, 2, 3, 99] {
+        let expected = [(6, Claim::WaitsNamesEarlier, Some(1))];
+        assert_eq!(broken(&check(&run(wrong))), expected);
+    }
+}
+
+#[test]
+fn told_once() {
+    let untold = with(&TOGETHER, 6, "waits -");
+    assert!(report(&untold).breaks(Claim::ToldOnce));
+
+    let late = [&TOGETHER[..6], &[("read 1 2 -", "value 0")]].concat();
+    assert_eq!(broken(&report(&late)), [(6, Claim::ToldOnce, Some(1))]);
+
+    let twice = [&TOGETHER[..7], &[("read 1 2 -", "setback -")]].concat();
+    assert_eq!(broken(&report(&twice)), [(7, Claim::ToldOnce, Some(1))]);
+
+    let invented = [("begin 0 - -", "begun 0"), ("read 0 0 -", "setback -")];
+    assert_eq!(broken(&report(&invented)), [(1, Claim::ToldOnce, Some(0))]);
+
+    let given_up_untold = [&TOGETHER[..6], &[("giveup 1 - -", "ended -")]].concat();
+    assert_eq!(broken(&report(&given_up_untold)), []);
+    let refused_first = [&TOGETHER[..6], &[("read 1 9 -", "refused 5")], &TOGETHER[6..]].concat();
+    assert_eq!(broken(&report(&refused_first)), []);
+}
+
+#[test]
+fn aborts_reported() {
+    let alone = [("begin 0 - -", "begun 0"), ("commit 0 - -", "committed 1")];
+    assert_eq!(broken(&report(&alone)), [(1, Claim::AbortsReported, Some(0))]);
+    let struck = |answer| [&TOGETHER[..9], &[("commit 1 - -", answer)]].concat();
+    assert_eq!(broken(&report(&struck("committed 1"))), []);
+    for wrong in ["committed 0", "committed 2"] {
+        let expected = [(9, Claim::AbortsReported, Some(1))];
+        assert_eq!(broken(&report(&struck(wrong))), expected);
+    }
+}
+
+#[test]
+fn rounds_bound() {
+    let waits = ("commit 0 - -", "waits -");
+    let begun = ("begin 0 - -", "begun 0");
+    let bound = (2, Claim::RoundsBound, Some(0));
+    assert!(broken(&report(&[begun, waits, waits])).contains(&bound));
+    assert!(!report(&[begun, waits]).breaks(Claim::RoundsBound));
+    let given_up = [begun, waits, waits, ("giveup 0 - -", "ended -")];
+    assert!(!report(&given_up).breaks(Claim::RoundsBound));
+    let refused = [begun, ("read 0 9 -", "refused 5"), ("begin 0 - -", "refused 8")];
+    let refused = [&refused[..], &refused[1..], &refused[1..]].concat();
+    assert_eq!(broken(&report(&refused)), []);
+}
+
+#[test]
+fn rounds_ask_only_the_group() {
+    let waits = ("commit 1 - -", "waits -");
+    let steps = [
+        ("begin 0 - -", "begun 0"),
+        ("begin 1 - -", "begun 1"),
+        ("begin 2 - -", "begun 2"),
+        ("write 0 0 1", "written -"),
+        ("write 1 0 2", "written -"),
+    ];
+    // Core 0 does not act again: core 1 may wait as long as it likes.
+    let idle = [&steps[..], &[waits; 50]].concat();
+    assert_eq!(broken(&report(&idle)), []);
+    // Core 0 acts in each round; core 2 began later and need not act.
+    let busy = [waits, ("commit 0 - -", "waits -")].repeat(6);
+    let rounds = report(&[&steps[..], &busy].concat());
+    assert!(broken(&rounds).contains(&(14, Claim::RoundsBound, Some(1))));
+}
+
+/// A transaction on core 2 that takes all the rounds it may: k = 1, L = 1.
+const TIGHT: [(&str, &str); 15] = [
+    ("begin 0 - -", "begun 0"),
+    ("begin 1 - -", "begun 1"),
+    ("write 0 0 5", "written -"),
+    ("read 1 0 -", "value 0"),
+    ("commit 0 - -", "committed 0"),
+    ("begin 2 - -", "begun 2"),
+    ("write 2 0 7", "written -"),
+    ("commit 1 - -", "setback -"),
+    ("write 1 0 6", "written -"),
+    ("commit 2 - -", "waits -"),
+    ("commit 2 - -", "waits -"),
+    ("commit 1 - -", "committed 1"),
+    ("commit 2 - -", "setback -"),
+    ("write 2 0 8", "written -"),
+    ("commit 2 - -", "committed 1"),
+];
+
+#[test]
+fn the_bound_is_reached_and_kept() {
+    let tight = report(&TIGHT);
+    assert_eq!(broken(&tight), []);
+    let nearest = Nearest { rounds: 6, bound: 6 };
+    assert_eq!(tight.nearest, Some(nearest));
+    let late = [&TIGHT[..14], &[("commit 2 - -", "waits -")], &TIGHT[14..]].concat();
+    assert!(broken(&report(&late)).contains(&(14, Claim::RoundsBound, Some(2))));
+}
+
+#[test]
+fn an_attempt_starts_at_the_strike() {
+    // The dead attempt of core 1 has touched nothing since the strike, though
+    // it is not told yet: core 2 commits past it.
+    let steps = [
+        ("begin 0 - -", "begun 0"),
+        ("begin 1 - -", "begun 1"),
+        ("begin 2 - -", "begun 2"),
+        ("write 1 1 4", "written -"),
+        ("read 1 0 -", "value 0"),
+        ("write 0 0 5", "written -"),
+        ("commit 0 - -", "committed 0"),
+        ("write 2 1 7", "written -"),
+        ("commit 2 - -", "committed 0"),
+        ("read 1 1 -", "setback -"),
+        ("read 1 1 -", "value 7"),
+        ("commit 1 - -", "committed 1"),
+    ];
+    assert_eq!(broken(&report(&steps)), []);
+    let waits = report(&with(&steps[..9], 8, "waits -"));
+    assert_eq!(broken(&waits), [(8, Claim::WaitsForEarlier, Some(2))]);
+}

@@ -1,0 +1,143 @@
+//! The generators: the same seed gives the same bytes, everything they promise
+//! to make is made, and the reference's own runs break no claim.
+
+use cards_reference::answer::Answer;
+use cards_reference::checker::{check, Nearest};
+use cards_reference::contended::Contention;
+use cards_reference::listed_runs::listed_runs;
+use cards_reference::machine::Machine;
+use cards_reference::random::Random;
+use cards_reference::replay::first_difference;
+use cards_reference::script::{listed, listing_of, parse_names};
+use cards_reference::scripts::{names_line, orders, script, LONGEST_ONE_IN};
+use std::collections::BTreeSet;
+
+#[test]
+fn runs_of_the_reference_break_no_claim() {
+    let mut nearest: Option<Nearest> = None;
+    for seed in 0..600 {
+        let mut contention = Contention::new(seed);
+        let run = contention.run(&mut Machine::blank(), 1_000);
+        let report = check(&run);
+        assert_eq!(report.broken, [], "seed {seed}");
+        assert_eq!(first_difference(&run), None, "seed {seed}");
+        if let Some(near) = report.nearest {
+            nearest = Some(nearest.map_or(near, |old| old.nearer(near)));
+        }
+    }
+    let nearest = nearest.expect("some transaction began");
+    println!("nearest to the bound: {nearest:?}, ratio {:.4}", nearest.ratio());
+    assert!(nearest.rounds <= nearest.bound);
+    assert!(nearest.ratio() > 0.95, "the runs press on the bound: {nearest:?}");
+}
+
+/// Every answer word but setup's, and every refusal number that a run on sound
+/// records and right tables can give.
+const SEEN: [&str; 16] = [
+    "begun",
+    "committed",
+    "ended",
+    "finished",
+    "queued",
+    "refused 4",
+    "refused 5",
+    "refused 6",
+    "refused 7",
+    "refused 8",
+    "refused 9",
+    "running",
+    "setback",
+    "value",
+    "waits",
+    "written",
+];
+
+#[test]
+fn runs_have_every_answer_and_refusal() {
+    let mut seen = BTreeSet::new();
+    let mut most_aborts = 0;
+    for seed in 0..200 {
+        let run = Contention::new(seed).run(&mut Machine::blank(), 500);
+        for (_, answer) in run.steps {
+            seen.insert(match answer {
+                Answer::Refused(number) => format!("refused {number}"),
+                _ => listed(answer).0.to_string(),
+            });
+            if let Answer::Committed(aborts) = answer {
+                most_aborts = most_aborts.max(aborts);
+            }
+        }
+    }
+    assert_eq!(seen.into_iter().collect::<Vec<_>>(), SEEN);
+    assert!(most_aborts >= 5, "only {most_aborts} aborts");
+}
+
+#[test]
+fn scripts_are_fixed_by_their_seed() {
+    for seed in 0..50 {
+        assert_eq!(script(seed), script(seed));
+    }
+    assert_ne!(script(1), script(2));
+}
+
+fn some_script(shape: impl Fn(&[u8]) -> bool) -> bool {
+    (0..3_000).any(|seed| shape(&script(seed)))
+}
+
+fn some_line(shape: impl Fn(&[u8]) -> bool) -> bool {
+    some_script(|script| script.split(|&byte| byte == b'\n').skip(1).any(&shape))
+}
+
+#[test]
+fn scripts_come_in_every_shape() {
+    assert!(some_script(|script| script.is_empty()));
+    assert!(some_script(|script| script.ends_with(b"\n")));
+    assert!(some_script(|script| script.len() > 100 && !script.ends_with(b"\n")));
+    assert!(some_script(|script| script.iter().filter(|&&b| b == b'\n').count() > 2_000));
+    for order in orders() {
+        assert!(some_script(|script| script.starts_with(&names_line(order))));
+    }
+    let names = |script: &[u8]| script.split(|&byte| byte == b'\n').next().map(parse_names);
+    assert!(some_script(|script| script.len() > 100 && names(script) == Some(None)));
+}
+
+#[test]
+fn lines_are_spoiled_in_every_way() {
+    for length in [0, 64, 65, 200_000] {
+        assert!(some_line(|line| line.len() == length), "{length} bytes");
+    }
+    for byte in [b'\r', b'\0', b'\t', b'+', 0xff] {
+        assert!(some_line(|line| line.contains(&byte)), "byte {byte}");
+    }
+    let holds = |line: &[u8], word: &str| String::from_utf8_lossy(line).contains(word);
+    for word in ["  ", "65535", "65536", "4294967295", "4294967296", " 007", " 00", "SETUP"] {
+        assert!(some_line(|line| holds(line, word)), "{word:?}");
+    }
+    assert!(some_line(|line| line.starts_with(b" ")));
+    assert!(some_line(|line| line.ends_with(b" ")));
+}
+
+#[test]
+fn some_script_reaches_past_the_last_line() {
+    let long = (0..30_000).filter(|&seed| Random::new(seed).below(LONGEST_ONE_IN) == 0);
+    let ends: BTreeSet<String> = long
+        .map(|seed| {
+            let listing = String::from_utf8(listing_of(&script(seed))).expect("text");
+            listing.lines().last().expect("a heading").to_string()
+        })
+        .collect();
+    assert!(ends.contains("1000001 refused 11"), "{ends:?}");
+    assert!(ends.iter().any(|end| end.starts_with("1000000 ")), "{ends:?}");
+}
+
+#[test]
+fn listings_of_scripts_break_no_claim() {
+    for seed in 0..300 {
+        let script = script(seed);
+        let runs = listed_runs(&script, &listing_of(&script)).expect("a good listing");
+        for shown in runs {
+            assert_eq!(check(&shown.run).broken, [], "seed {seed}");
+            assert_eq!(first_difference(&shown.run), None, "seed {seed}");
+        }
+    }
+}

@@ -1,0 +1,124 @@
+//! The three programs, run as a user runs them.
+
+use std::io::Write;
+use std::process::{Command, Output, Stdio};
+
+const REFERENCE: &str = env!("CARGO_BIN_EXE_cards-reference");
+const COMPARE: &str = env!("CARGO_BIN_EXE_compare");
+const CHECK_RUN: &str = env!("CARGO_BIN_EXE_check-run");
+const CASE_A: &[u8] = include_bytes!("data/case_a.script");
+const CASE_A_LISTING: &[u8] = include_bytes!("data/case_a.listing");
+
+fn output(program: &str, arguments: &[&str], input: &[u8]) -> Output {
+    let mut child = Command::new(program)
+        .args(arguments)
+        .stdin(Stdio::piped())
+        .stdout(Stdio::piped())
+        .stderr(Stdio::piped())
+        .spawn()
+        .expect("the program starts");
+    let mut stdin = child.stdin.take().expect("standard input is piped");
+    stdin.write_all(input).expect("the program reads its input");
+    drop(stdin);
+    child.wait_with_output().expect("the program ends")
+}
+
+fn text(output: &Output) -> String {
+    String::from_utf8(output.stdout.clone()).expect("text")
+}
+
+#[test]
+fn cards_reference_prints_case_a() {
+    let output = output(REFERENCE, &[], CASE_A);
+    assert!(output.status.success());
+    assert_eq!(output.stdout, CASE_A_LISTING);
+}
+
+#[test]
+fn compare_finds_no_difference_in_the_reference() {
+    let output = output(COMPARE, &["--seed", "7", "--count", "150", REFERENCE], b"");
+    assert_eq!(output.status.code(), Some(0));
+    let text = text(&output);
+    assert!(text.starts_with("compared 150 scripts ("), "{text}");
+    assert!(text.ends_with(" lines), no difference\n"), "{text}");
+}
+
+/// The reference with its listing edited, as a shell command.
+fn compare_edited(edit: &str) -> String {
+    let command = format!("\"$0\" | sed '{edit}'");
+    let arguments = ["--seed", "7", "--count", "150", "sh", "-c", &command, REFERENCE];
+    let output = output(COMPARE, &arguments, b"");
+    assert_eq!(output.status.code(), Some(1), "{edit}");
+    text(&output)
+}
+
+#[test]
+fn compare_shows_the_shortest_script_of_a_wrong_answer() {
+    let text = compare_edited("s/ready -/ready 0/");
+    let expected = [
+        "listing of the reference:",
+        "  line answer value\\n",
+        "  2 ready -\\n",
+        "listing of sh:",
+        "  line answer value\\n",
+        "  2 ready 0\\n",
+    ];
+    let lines: Vec<&str> = text.lines().collect();
+    assert!(lines[0].contains("differs; shortest script"), "{text}");
+    assert_eq!(lines.len(), 3 + expected.len(), "{text}");
+    assert_eq!(lines[3..], expected, "{text}");
+}
+
+#[test]
+fn compare_shrinks_a_wrong_wait_to_few_lines() {
+    let text = compare_edited("s/waits -/committed 0/");
+    let shown = text.split("listing of the reference").next().expect("a script");
+    // Names, setup, two jobs, two begins, two touches of a card, one commit.
+    assert_eq!(shown.lines().count(), 1 + 9, "{text}");
+}
+
+#[test]
+fn compare_shrinks_a_wrong_answer_to_empty_input() {
+    let text = compare_edited("s/^1 refused 11/1 refused 12/");
+    assert!(text.contains("shortest script, 0 bytes"), "{text}");
+}
+
+#[test]
+fn compare_tells_how_it_is_used() {
+    assert_eq!(output(COMPARE, &[], b"").status.code(), Some(2));
+    assert_eq!(output(COMPARE, &["--seed", "x", "y"], b"").status.code(), Some(2));
+    let missing = output(COMPARE, &["--count", "1", "no-such-program"], b"");
+    assert_eq!(missing.status.code(), Some(2));
+}
+
+fn check_listing(name: &str, listing: &str) -> Output {
+    let path = std::path::Path::new(env!("CARGO_TARGET_TMPDIR")).join(name);
+    std::fs::write(&path, listing).expect("the listing is written");
+    output(CHECK_RUN, &[path.to_str().expect("a plain path")], CASE_A)
+}
+
+#[test]
+fn check_run_judges_a_listing() {
+    let right = String::from_utf8(CASE_A_LISTING.to_vec()).expect("text");
+    let good = check_listing("good.listing", &right);
+    assert_eq!(good.status.code(), Some(0), "{}", text(&good));
+    assert!(text(&good).starts_with("checked 1 runs (12 calls), 0 claims broken\n"));
+
+    let wrong = right.replace("13 value 30", "13 value 0");
+    let bad = check_listing("bad.listing", &wrong);
+    assert_eq!(bad.status.code(), Some(1));
+    let shown = text(&bad);
+    assert!(shown.contains("line 13: SerialReads broken for transaction 1\n"), "{shown}");
+    assert!(shown.contains("line 13: not the rule's answer\n"), "{shown}");
+
+    let short = check_listing("short.listing", "line answer value\n2 ready -\n");
+    assert_eq!(short.status.code(), Some(1));
+    assert_eq!(text(&short), "line 3 is not listed\n");
+}
+
+#[test]
+fn check_run_judges_runs_by_seed() {
+    let output = output(CHECK_RUN, &["--seed", "1", "--count", "20"], b"");
+    assert_eq!(output.status.code(), Some(0));
+    assert!(text(&output).starts_with("checked 20 runs (40000 calls), 0 claims broken\n"));
+}
