@@ -2,5 +2,9 @@ pub mod Record
 pub mod Sound
 pub mod Answers
 pub mod Rule
-pub mod Case
+pub mod Follows
+pub mod Words
+pub mod Rounds
+pub mod Serial
+pub mod Claims
 pub mod Examples

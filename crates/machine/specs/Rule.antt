@@ -95,8 +95,15 @@ setup cores objects committed pending =
 abbrev pub withList : Core → List Job → ℕ → Core
 withList k jobs n =
     record {
-      jobs = jobs; count = n; active = k .active; owner = k .owner; ticket = k .ticket; aborts = k .aborts; zombie = k .zombie;
-      reads = k .reads; writes = k .writes
+      jobs = jobs;
+      count = n;
+      active = k .active;
+      owner = k .owner;
+      ticket = k .ticket;
+      aborts = k .aborts;
+      zombie = k .zombie;
+      reads = k .reads;
+      writes = k .writes;
     }
 
 unfoldable pub released : Machine → ℕ → Job → Outcome

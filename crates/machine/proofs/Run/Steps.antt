@@ -9,23 +9,23 @@ use native.Mathlib.Omega.{arith}
 use lib.Dec.{eqb, ltb, leb}
 use lib.ListN.{length, getD, replicate, length-replicate, getD-replicate, List·getD-eq-default}
 use borrow.Author.Tests.{ltb-true, ltb-false, leb-true, eqb-false, not-false}
 use Rattle.machine.specs.declared.Core.{Core}
 use Rattle.machine.specs.declared.Answer.{Answer}
 use Rattle.machine.specs.declared.Answer.the-variants.{Ready, Begun, Value, Written, Waits, Committed, SetBack, Ended, Refused}
 use Rattle.machine.specs.Answers.{kind, values}
 use Rattle.machine.specs.Record.{noCore, coreAt, blankCore, blank, machineOf}
 use Rattle.machine.specs.Rule as Rule
 use Rattle.machine.specs.Rule.{World, Call}
-use Rattle.machine.specs.Case.{Case, is-refused, is-released, is-begun, is-told, is-valued, is-written, is-waiting, is-through, is-ended, is-finished, case-of}
-use Rattle.objset.specs.Laws.{both-left, both-right}
-use Rattle.history.specs.Words.{Event, Deed, begins, reads, writes, waits, commits, told, gives, other, amounts, deeds, inProgress, births, born, any, wrote, conflict, crosses, attempt, struck, setBacks}
-use Rattle.history.specs.Serial.{serial, version}
-use Rattle.history.specs.Claims.{Run, fresh, then}
-use Rattle.history.proofs.Orderly.{Allowed, Orderly}
-use Rattle.history.proofs.View.{view}
-use Rattle.history.proofs.CoreAgrees.{CoreAgrees, agrees-idle, meets-crosses}
-use Rattle.history.proofs.Agreement.{Agree, Step, inside, acting, refused-other, told-amounts, agree-other, step-list, step-told, step-read, read-alone, step-write, step-waits, step-gives, step-begins}
-use Rattle.history.proofs.AgreementCommit.{step-commits, finds-commits}
+use Rattle.machine.proofs.Case.{Case, is-refused, is-released, is-begun, is-told, is-valued, is-written, is-waiting, is-through, is-ended, is-finished, case-of}
+use Rattle.objset.proofs.Laws.{both-left, both-right}
+use Rattle.machine.specs.Words.{Event, Deed, begins, reads, writes, waits, commits, told, gives, other, amounts, deeds, inProgress, births, born, any, wrote, conflict, crosses, attempt, struck, setBacks}
+use Rattle.machine.specs.Serial.{serial, version}
+use Rattle.machine.specs.Claims.{Run, fresh, then}
+use Rattle.machine.proofs.Run.Orderly.{Allowed, Orderly}
+use Rattle.machine.proofs.Run.View.{view}
+use Rattle.machine.proofs.Run.CoreAgrees.{CoreAgrees, agrees-idle, meets-crosses}
+use Rattle.machine.proofs.Run.Agreement.{Agree, Step, inside, acting, refused-other, told-amounts, agree-other, step-list, step-told, step-read, read-alone, step-write, step-waits, step-gives, step-begins}
+use Rattle.machine.proofs.Run.AgreementCommit.{step-commits, finds-commits}
 
 -- the core that waits names has an earlier transaction in conflict
 finds-waits : {o : ℕ} {w : World} {h : List Deed} → Agree o w h → (c e : ℕ) → coreAt (w .machine) c .active ≡ true → Rule.contender (w .machine) c e ≡ true
@@ -37,11 +37,12 @@ finds-waits {o} {w} {h} a c e going ahead =
     let active : j .active ≡ true = both-left (j .active) (ltb (j .ticket) (k .ticket)) (both-left (j .active && ltb (j .ticket) (k .ticket)) _ ahead) in
     let less : ltb (j .ticket) (k .ticket) ≡ true = both-right (j .active) (ltb (j .ticket) (k .ticket)) (both-left (j .active && ltb (j .ticket) (k .ticket)) _ ahead) in
     let there : inProgress h e ≡ true = sym (a .each-core e .same-going) ∙ active in
-    let here : inProgress h c ≡ true = sym (a .each-core c .same-going) ∙ going in
-    (there,
+    let here : inProgress h c ≡ true = sym (a .each-core c .same-going) ∙ going in (
+      there,
       omega (arith, ltb-true (j .ticket) (k .ticket) less, a .each-core e .same-order there, a .each-core c .same-order here),
       sym (ap₂ _||_ (meets-crosses k j (view h c) (view h e) (a .each-core c) (a .each-core e)) (meets-crosses j k (view h e) (view h c) (a .each-core e) (a .each-core c)))
-      ∙ both-right (j .active && ltb (j .ticket) (k .ticket)) _ ahead)
+          ∙ both-right (j .active && ltb (j .ticket) (k .ticket)) _ ahead,
+    )
 
 -- a marked one has one strike that it was not told of
 one-untold : {o : ℕ} {w : World} {h : List Deed} → Agree o w h → (c : ℕ) → inProgress h c ≡ true → coreAt (w .machine) c .zombie ≡ true
@@ -88,10 +89,13 @@ setup-fresh cores objects committed pending ready =
   where
     given : World
     given = record { machine = blank; committed = committed; pending = pending }
+
     made : World
     made = record { machine = machineOf cores objects; committed = replicate objects 0; pending = replicate (cores * objects) 0 }
+
     result : Bool → Bool → Rule.Result
     result r f = Rule.unlessLent (cond (not r) 1 (cond f 3 0)) given (record { answer = Ready; world = made })
+
     go : (r : Bool) → (ltb 0 cores && leb cores 16 && ltb 0 objects && leb objects 64) ≡ r → (f : Bool) → result r f .answer ≡ Ready → Fresh cores objects (result r f .world)
     go true r true e = absurd (not-refused 3 e)
     go true r false e =
@@ -100,7 +104,7 @@ setup-fresh cores objects committed pending ready =
         record {
           cores-few = leb-true cores 16 (both-right (ltb 0 cores) (leb cores 16) two);
           objects-few = leb-true objects 64 (both-right (ltb 0 cores && leb cores 16 && ltb 0 objects) (leb objects 64) r);
-          world-is = refl
+          world-is = refl;
         }
     go false r f e = absurd (not-refused 1 e)
 
@@ -109,10 +113,16 @@ unfolding inProgress births attempt serial version wrote any
 agree-fresh cores objects w₀ f =
     rw (f .world-is)
     (record {
-      cores-long = refl; cores-few = f .cores-few; objects-few = f .objects-few; same-objects = refl; versions-long = refl;
-      same-tickets = refl; each-core = λ c. go c (ltb c 16) refl; same-committed = refl;
+      cores-long = refl;
+      cores-few = f .cores-few;
+      objects-few = f .objects-few;
+      same-objects = refl;
+      versions-long = refl;
+      same-tickets = refl;
+      each-core = λ c. go c (ltb c 16) refl;
+      same-committed = refl;
       same-pending = λ c d l t. absurd (true≢false (sym t));
-      same-versions = λ d l. getD-replicate 64 d 0 0 (omega (arith, f .objects-few))
+      same-versions = λ d l. getD-replicate 64 d 0 0 (omega (arith, f .objects-few));
     })
   where
     go : (c : ℕ) (q : Bool) → ltb c 16 ≡ q → CoreAgrees (coreAt (machineOf cores objects) c) (view [] c)

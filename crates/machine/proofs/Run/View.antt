@@ -6,7 +6,7 @@ use Prim.Native.Nat.{ℕ, zero, suc, _+_, _<_}
 use native.Mathlib.Nat.{zero-add}
 use lib.Dec.{eqb}
 use borrow.Author.Tests.{eq-eqb}
-use Rattle.history.specs.Words.{Deed, begins, reads, writes, waits, commits, told, gives, other, beginsOn, endsOn, stepsOn, toldOn, inProgress, births, born, attempt, strikesGiven, strikes, crosses, struck, setBacks}
+use Rattle.machine.specs.Words.{Deed, begins, reads, writes, waits, commits, told, gives, other, beginsOn, endsOn, stepsOn, toldOn, inProgress, births, born, attempt, strikesGiven, strikes, crosses, struck, setBacks}
 
 -- in progress, order of its begin, present attempt, strikes, calls answered set back
 pub record View : Type 0 where

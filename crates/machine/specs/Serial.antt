@@ -5,7 +5,7 @@ use mathlib.Core.List.{List, [], _∷_}
 use Prim.Native.Nat.{ℕ, _+_}
 use lib.Dec.{eqb}
 use lib.ListN.{getD, set, replicate}
-use Rattle.history.specs.Words.{Deed, begins, reads, writes, waits, commits, told, gives, other, wrote, attempt}
+use Rattle.machine.specs.Words.{Deed, begins, reads, writes, waits, commits, told, gives, other, wrote, attempt}
 
 -- the cards after an attempt that runs alone on the cards t
 unfoldable pub effect : List Deed → List ℕ → List ℕ

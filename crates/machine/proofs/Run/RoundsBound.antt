@@ -9,14 +9,14 @@ use native.Mathlib.Omega.{arith}
 use lib.Dec.{leb}
 use lib.ListN.{length}
 use borrow.Author.Tests.{leb-true, le-leb}
-use Rattle.objset.specs.Laws.{both-left, both-right, each-one}
+use Rattle.objset.proofs.Laws.{both-left, both-right, each-one}
 use Rattle.machine.specs.Record.{tally}
-use Rattle.history.specs.Words.{Deed, endsOn, actsOn, inProgress, births, born, any, attempt}
-use Rattle.history.specs.Rounds.{Rounds, no-round, between, one-round, among, isRound}
-use Rattle.history.proofs.Orderly.{Orderly}
-use Rattle.history.proofs.Tally.{tally-mono, tally-less, tally-some}
-use Rattle.history.proofs.Births.{clash, ended, births-grow, born-below, core-below, older-kept}
-use Rattle.history.proofs.Eldest.{Eldest, some-eldest, spent, spent-at-most, Acted, ends, spends, eldest-kept, eldest-acts, eldest-rests}
+use Rattle.machine.specs.Words.{Deed, endsOn, actsOn, inProgress, births, born, any, attempt}
+use Rattle.machine.specs.Rounds.{Rounds, no-round, between, one-round, among, isRound}
+use Rattle.machine.proofs.Run.Orderly.{Orderly}
+use Rattle.machine.proofs.Run.Tally.{tally-mono, tally-less, tally-some}
+use Rattle.machine.proofs.Run.Births.{clash, ended, births-grow, born-below, core-below, older-kept}
+use Rattle.machine.proofs.Run.Eldest.{Eldest, some-eldest, spent, spent-at-most, Acted, ends, spends, eldest-kept, eldest-acts, eldest-rests}
 
 -- ---- T and those before it
 

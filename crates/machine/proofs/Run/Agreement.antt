@@ -10,24 +10,24 @@ use lib.Dec.{eqb, ltb}
 use lib.ListN.{length, getD, set, length-set}
 use lib.Seq.{getD-set-same, getD-set-other, ext-getD}
 use borrow.Author.Tests.{eqb-true, eqb-false, eq-eqb, ne-eqb, ltb-true, ltb-false}
 use Rattle.machine.specs.declared.Machine.{Machine}
 use Rattle.machine.specs.declared.Core.{Core}
 use Rattle.machine.specs.declared.Job.{Job}
 use Rattle.machine.specs.declared.Answer.{Answer}
 use Rattle.machine.specs.declared.Answer.the-variants.{Begun, Value, Written, Waits, Committed, SetBack, Ended, Refused}
 use Rattle.machine.specs.Answers.{kind, values}
 use Rattle.machine.specs.Record.{noCore, coreAt, putCore}
 use Rattle.machine.specs.Rule as Rule
 use Rattle.machine.specs.Rule.{World, Call, Release, Begin, Read, Write, Commit, GiveUp, Finish, withMachine, withList, withSets}
 use Rattle.objset.specs.Objset.{has, added}
-use Rattle.machine.specs.Case.{Core-ok, Lent-ok, Asks, asks-read, asks-write, asks-commit, Case, is-refused, is-released, is-begun, is-told, is-valued, is-written, is-waiting, is-through, is-ended, is-finished}
-use Rattle.history.specs.Words.{Deed, begins, reads, writes, waits, commits, told, gives, other, amounts, inProgress, births, born, wrote, any, attempt, strikes, struck, setBacks}
-use Rattle.history.specs.Serial.{effect, serial, version}
-use Rattle.history.proofs.Orderly.{Acting, Reading, Waiting, Committing, Allowed, Orderly}
-use Rattle.history.proofs.View.{View, view, further, Over, concerns, view-other, view-begins, view-reads, view-writes, view-waits, view-told, view-gives, view-commits, view-struck}
-use Rattle.history.proofs.Effects.{lastWrite, effect-long, effect-unwritten, effect-written}
-use Rattle.history.proofs.Places.{slot-inside, slot-core, slot-object, cleared-at, cleared-long, changed-at, changed-long}
-use Rattle.history.proofs.CoreAgrees.{CoreAgrees, agrees-idle, agrees-list, agrees-read, agrees-write, agrees-struck, agrees-told, agrees-begun, meets-crosses, void-crosses}
+use Rattle.machine.proofs.Case.{Core-ok, Lent-ok, Asks, asks-read, asks-write, asks-commit, Case, is-refused, is-released, is-begun, is-told, is-valued, is-written, is-waiting, is-through, is-ended, is-finished}
+use Rattle.machine.specs.Words.{Deed, begins, reads, writes, waits, commits, told, gives, other, amounts, inProgress, births, born, wrote, any, attempt, strikes, struck, setBacks}
+use Rattle.machine.specs.Serial.{effect, serial, version}
+use Rattle.machine.proofs.Run.Orderly.{Acting, Reading, Waiting, Committing, Allowed, Orderly}
+use Rattle.machine.proofs.Run.View.{View, view, further, Over, concerns, view-other, view-begins, view-reads, view-writes, view-waits, view-told, view-gives, view-commits, view-struck}
+use Rattle.machine.proofs.Run.Effects.{lastWrite, effect-long, effect-unwritten, effect-written}
+use Rattle.machine.proofs.Run.Places.{slot-inside, slot-core, slot-object, cleared-at, cleared-long, changed-at, changed-long}
+use Rattle.machine.proofs.Run.CoreAgrees.{CoreAgrees, agrees-idle, agrees-list, agrees-read, agrees-write, agrees-struck, agrees-told, agrees-begun, meets-crosses, void-crosses}
 
 pub record Agree (o : ℕ) (w : World) (h : List Deed) : Type 0 where
   pub cores-long : length (w .machine .core) ≡ 16
@@ -119,12 +119,17 @@ abbrev after : World → ℕ → ℕ → List Core → List ℕ → World
 after w n g ks p =
     record {
       machine =
-        record {
-          cores = w .machine .cores; objects = w .machine .objects; tickets = w .machine .tickets; commits = n; «give_ups» = g;
-          core = ks; versions = w .machine .versions
-        };
+          record {
+            cores = w .machine .cores;
+            objects = w .machine .objects;
+            tickets = w .machine .tickets;
+            commits = n;
+            «give_ups» = g;
+            core = ks;
+            versions = w .machine .versions;
+          };
       committed = w .committed;
-      pending = p
+      pending = p;
     }
 
 module _ {o : ℕ} {w : World} {h : List Deed} (a : Agree o w h) (x : Deed) (quiet : Quiet x) where
@@ -133,13 +138,16 @@ module _ {o : ℕ} {w : World} {h : List Deed} (a : Agree o w h) (x : Deed) (qui
       → Agree o (after w n g ks p) (x ∷ h)
   agree-quiet n g ks p long all words =
       record {
-        cores-long = long; cores-few = a .cores-few; objects-few = a .objects-few; same-objects = a .same-objects;
+        cores-long = long;
+        cores-few = a .cores-few;
+        objects-few = a .objects-few;
+        same-objects = a .same-objects;
         versions-long = a .versions-long;
         same-tickets = a .same-tickets ∙ sym (quiet-births x h quiet);
         each-core = all;
         same-committed = a .same-committed ∙ sym (quiet-serial o x h quiet);
         same-pending = words;
-        same-versions = λ d l. a .same-versions d l ∙ sym (quiet-version x h d quiet)
+        same-versions = λ d l. a .same-versions d l ∙ sym (quiet-version x h d quiet);
       }
 
   -- the words of a core that the deed does not concern are as they were
@@ -185,7 +193,7 @@ acting {o} {w} {h} {c} a ok z =
     record {
       is-core = inside a (ok .core-ok);
       going = going;
-      all-told = k .same-heard going ∙ ap (λ (b : Bool). cond b 1 0 + setBacks h c) z ∙ zero-add (setBacks h c)
+      all-told = k .same-heard going ∙ ap (λ (b : Bool). cond b 1 0 + setBacks h c) z ∙ zero-add (setBacks h c);
     }
 
 -- what a step of the run shows
@@ -248,8 +256,10 @@ module _ {o : ℕ} {w : World} {h : List Deed} (a : Agree o w h) where
     where
       hd′ : d < o
       hd′ = omega (arith, a .same-objects)
+
       long : length (serial o h) ≡ o
       long = ap length (sym (a .same-committed)) ∙ ok .committed-long ∙ a .same-objects
+
       go : (q : Bool) → has (coreAt (w .machine) c .writes) d ≡ q
           → cond q (getD (w .pending) (c * w .machine .objects + d) 0) (getD (w .committed) d 0) ≡ getD (effect (attempt h c) (serial o h)) d 0
       go true q =
@@ -267,23 +277,27 @@ module _ {o : ℕ} {w : World} {h : List Deed} (a : Agree o w h) where
       agree-quiet a (writes c d v) tt (w .machine .commits) (w .machine .«give_ups») (set (w .machine .core) c _)
       (set (w .pending) (c * w .machine .objects + d) v) (length-set (w .machine .core) c _ ∙ a .cores-long)
       (one-core (w .machine .core) h (writes c d v) c _ (a .cores-long) (inside a (ok .core-ok)) (a .each-core)
-        (rw (view-writes h c d v) (agrees-write (coreAt (w .machine) c) (view h c) c d v (omega (arith, a .same-objects, a .objects-few)) z (a .each-core c)))
-        (λ e q. quiet-view a (writes c d v) tt e q))
+      (rw (view-writes h c d v) (agrees-write (coreAt (w .machine) c) (view h c) c d v (omega (arith, a .same-objects, a .objects-few)) z (a .each-core c)))
+      (λ e q. quiet-view a (writes c d v) tt e q))
       (λ e f l t. words e f l (eqb c e) refl t)
     where
       hd′ : d < o
       hd′ = omega (arith, a .same-objects)
+
       p : List ℕ
       p = set (w .pending) (c * w .machine .objects + d) v
+
       -- the word stored to, with the number of cards as the words have it
       there : (f : ℕ) → f < o → c * o + f < length (w .pending)
       there f l = rw (ok .pending-long, a .same-objects) (slot-inside (w .machine .cores) o c f (ok .core-ok .is-core) l)
+
       own : (f : ℕ) → f < o → (q : Bool) → eqb d f ≡ q → (q || wrote (attempt h c) f) ≡ true → getD p (c * o + f) 0 ≡ cond q v (lastWrite (attempt h c) f)
       own f l true q t =
           rw (a .same-objects, eqb-true d f q) (getD-set-same (w .pending) (c * o + f) v 0 (there f l))
       own f l false q t =
           rw (a .same-objects)
           (getD-set-other (w .pending) (c * o + d) (c * o + f) v 0 (λ s. eqb-false d f q (slot-object o c c d f hd′ l (sym s))) ∙ a .same-pending c f l t)
+
       words : (e f : ℕ) → f < o → (q : Bool) → eqb c e ≡ q → wrote (attempt (writes c d v ∷ h) e) f ≡ true
           → getD p (e * o + f) 0 ≡ lastWrite (attempt (writes c d v ∷ h) e) f
       words e f l true q t =
@@ -317,16 +331,19 @@ module _ {o : ℕ} {w : World} {h : List Deed} (a : Agree o w h) where
   unfolding Rule.begun births serial version wrote any
   step-begins c ok idle =
       record {
-        cores-long = length-set (w .machine .core) c _ ∙ a .cores-long; cores-few = a .cores-few; objects-few = a .objects-few;
-        same-objects = a .same-objects; versions-long = a .versions-long;
+        cores-long = length-set (w .machine .core) c _ ∙ a .cores-long;
+        cores-few = a .cores-few;
+        objects-few = a .objects-few;
+        same-objects = a .same-objects;
+        versions-long = a .versions-long;
         same-tickets = omega (arith, a .same-tickets);
         each-core =
-          one-core (w .machine .core) h (begins c) c _ (a .cores-long) (inside a ok) (a .each-core)
-          (rw (view-begins h c) (agrees-begun _ (births h) refl (a .same-tickets) refl refl refl refl))
-          (λ e q. view-other (begins c) h e q refl);
+            one-core (w .machine .core) h (begins c) c _ (a .cores-long) (inside a ok) (a .each-core)
+            (rw (view-begins h c) (agrees-begun _ (births h) refl (a .same-tickets) refl refl refl refl))
+            (λ e q. view-other (begins c) h e q refl);
         same-committed = a .same-committed;
         same-pending = λ e d l t. words e d l (eqb c e) refl t;
-        same-versions = a .same-versions
+        same-versions = a .same-versions;
       }
     where
       words : (e d : ℕ) → d < o → (q : Bool) → eqb c e ≡ q → wrote (attempt (begins c ∷ h) e) d ≡ true

@@ -8,10 +8,10 @@ use native.Mathlib.Omega.{arith}
 use lib.Dec.{eqb, ltb}
 use lib.ListN.{length}
 use borrow.Author.Tests.{ltb-true, ltb-false, eqb-true, eqb-false, eq-eqb, ne-eqb}
-use Rattle.history.specs.Words.{Deed, begins, reads, writes, waits, commits, told, gives, other, beginsOn, endsOn, stepsOn, toldOn, actsOn, inProgress, born, attempt, strikes, struck, setBacks}
-use Rattle.history.proofs.Orderly.{Orderly, Allowed}
-use Rattle.history.proofs.Births.{clash, Going, begun, kept, going, going-on, going-not-begun, born-begun, born-kept, born-below, core-below}
-use Rattle.history.proofs.Strikes.{striker, struck-kept}
+use Rattle.machine.specs.Words.{Deed, begins, reads, writes, waits, commits, told, gives, other, beginsOn, endsOn, stepsOn, toldOn, actsOn, inProgress, born, attempt, strikes, struck, setBacks}
+use Rattle.machine.proofs.Run.Orderly.{Orderly, Allowed}
+use Rattle.machine.proofs.Run.Births.{clash, Going, begun, kept, going, going-on, going-not-begun, born-begun, born-kept, born-below, core-below}
+use Rattle.machine.proofs.Run.Strikes.{striker, struck-kept}
 
 -- ---- there is an eldest
 

@@ -7,8 +7,8 @@ use lib.Dec.{eqb}
 use lib.ListN.{length, getD, set, length-set}
 use lib.Seq.{getD-set-same, getD-set-other}
 use borrow.Author.Tests.{eqb-true, eqb-false}
-use Rattle.history.specs.Words.{Deed, begins, reads, writes, waits, commits, told, gives, other, stores, any, wrote}
-use Rattle.history.specs.Serial.{effect}
+use Rattle.machine.specs.Words.{Deed, begins, reads, writes, waits, commits, told, gives, other, stores, any, wrote}
+use Rattle.machine.specs.Serial.{effect}
 
 -- the value of an attempt's newest write of card d
 unfoldable pub lastWrite : List Deed → ℕ → ℕ

@@ -9,13 +9,13 @@ use native.Mathlib.Omega.{arith}
 use lib.Dec.{eqb}
 use lib.ListN.{length}
 use borrow.Author.Tests.{eqb-true, eq-eqb}
 use Rattle.machine.specs.Record.{tally}
-use Rattle.history.specs.Words.{Deed, begins, reads, writes, waits, commits, told, gives, other, beginsOn, endsOn, inProgress, births, born, attempt}
-use Rattle.history.specs.Rounds.{Rounds, Fate, in-progress, committed, given-up, fate, fateAfter, among, AtMost}
-use Rattle.history.proofs.Orderly.{Orderly}
-use Rattle.history.proofs.Tally.{tally-but-one}
-use Rattle.history.proofs.Births.{Going, begun, kept, going, going-on, going-not-begun, births-begun, births-late, born-begun, born-kept}
-use Rattle.history.proofs.RoundsBound.{Moment, Steady, among-going, out-of-rounds}
+use Rattle.machine.specs.Words.{Deed, begins, reads, writes, waits, commits, told, gives, other, beginsOn, endsOn, inProgress, births, born, attempt}
+use Rattle.machine.specs.Rounds.{Rounds, Fate, in-progress, committed, given-up, fate, fateAfter, among, AtMost}
+use Rattle.machine.proofs.Run.Orderly.{Orderly}
+use Rattle.machine.proofs.Run.Tally.{tally-but-one}
+use Rattle.machine.proofs.Run.Births.{Going, begun, kept, going, going-on, going-not-begun, births-begun, births-late, born-begun, born-kept}
+use Rattle.machine.proofs.Run.RoundsBound.{Moment, Steady, among-going, out-of-rounds}
 
 committed-is-over : committed ≡ in-progress → ⊥
 committed-is-over e = let z : _≡_ {A = ℕ} 0 1 = cc in omega arith

@@ -8,14 +8,14 @@ use native.Mathlib.Omega.{arith}
 use lib.Dec.{eqb, ltb}
 use borrow.Author.Tests.{eqb-true, eqb-false, eq-eqb, ne-eqb}
 use Rattle.objset.specs.Objset.{has, some, joined, added, meeting}
-use Rattle.objset.specs.Digits.{has-zero}
-use Rattle.objset.specs.Laws.{some-one, one-some, both-left, both-right, has-joined, joined-fits, has-added, added-fits}
+use Rattle.objset.proofs.Digits.{has-zero}
+use Rattle.objset.proofs.Laws.{some-one, one-some, both-left, both-right, has-joined, joined-fits, has-added, added-fits}
 use Rattle.machine.specs.declared.Core.{Core}
 use Rattle.machine.specs.declared.Job.{Job}
 use Rattle.machine.specs.Record.{noCore, dataSet, idle}
 use Rattle.machine.specs.Rule.{withList, withSets, aborted, over, struck}
-use Rattle.history.specs.Words.{Deed, begins, reads, writes, waits, commits, told, gives, other, touches, stores, any, touched, wrote, crosses, inProgress, attempt, strikes}
-use Rattle.history.proofs.View.{View, view, further, Over}
+use Rattle.machine.specs.Words.{Deed, begins, reads, writes, waits, commits, told, gives, other, touches, stores, any, touched, wrote, crosses, inProgress, attempt, strikes}
+use Rattle.machine.proofs.Run.View.{View, view, further, Over}
 
 pub record CoreAgrees (k : Core) (v : View) : Type 0 where
   pub same-going : k .active ≡ v .going
@@ -41,7 +41,7 @@ agrees-idle k v p z r w o =
       same-data = λ d. rw (r, w, o .1, has-zero d) refl;
       same-hits = λ g. absurd (true≢false (sym g ∙ o .0));
       same-heard = λ g. absurd (true≢false (sym g ∙ o .0));
-      zombie-empty = λ g. absurd (true≢false (sym g ∙ z))
+      zombie-empty = λ g. absurd (true≢false (sym g ∙ z));
     }
 
 mid-first : (p q r : Bool) → ((p || q) || r) ≡ (q || (p || r))
@@ -74,9 +74,15 @@ eqb-sym a b = go (eqb a b) refl
 pub agrees-list : (k : Core) (v : View) (jobs : List Job) (n : ℕ) → CoreAgrees k v → CoreAgrees (withList k jobs n) v
 agrees-list k v jobs n a =
     record {
-      same-going = a .same-going; same-order = a .same-order; reads-fit = a .reads-fit; writes-fit = a .writes-fit;
-      same-writes = a .same-writes; same-data = a .same-data; same-hits = a .same-hits; same-heard = a .same-heard;
-      zombie-empty = a .zombie-empty
+      same-going = a .same-going;
+      same-order = a .same-order;
+      reads-fit = a .reads-fit;
+      writes-fit = a .writes-fit;
+      same-writes = a .same-writes;
+      same-data = a .same-data;
+      same-hits = a .same-hits;
+      same-heard = a .same-heard;
+      zombie-empty = a .zombie-empty;
     }
 
 -- one read more
@@ -85,13 +91,17 @@ pub agrees-read : (k : Core) (v : View) (c d x : ℕ) → d < 64 → k .zombie �
 unfolding wrote touched any
 agrees-read k v c d x hd z a =
     record {
-      same-going = a .same-going; same-order = a .same-order; reads-fit = added-fits (k .reads) d; writes-fit = a .writes-fit;
+      same-going = a .same-going;
+      same-order = a .same-order;
+      reads-fit = added-fits (k .reads) d;
+      writes-fit = a .writes-fit;
       same-writes = a .same-writes;
       same-data =
-        λ e. ap (λ (b : Bool). b || has (k .writes) e) (has-added (k .reads) d e (a .reads-fit) hd)
-        ∙ mid-first (has (k .reads) e) (eqb e d) (has (k .writes) e) ∙ ap₂ _||_ (eqb-sym e d) (a .same-data e);
-      same-hits = a .same-hits; same-heard = a .same-heard;
-      zombie-empty = λ g. absurd (true≢false (sym g ∙ z))
+          λ e. ap (λ (b : Bool). b || has (k .writes) e) (has-added (k .reads) d e (a .reads-fit) hd)
+          ∙ mid-first (has (k .reads) e) (eqb e d) (has (k .writes) e) ∙ ap₂ _||_ (eqb-sym e d) (a .same-data e);
+      same-hits = a .same-hits;
+      same-heard = a .same-heard;
+      zombie-empty = λ g. absurd (true≢false (sym g ∙ z));
     }
 
 -- one write more
@@ -100,14 +110,18 @@ pub agrees-write : (k : Core) (v : View) (c d x : ℕ) → d < 64 → k .zombie 
 unfolding wrote touched any
 agrees-write k v c d x hd z a =
     record {
-      same-going = a .same-going; same-order = a .same-order; reads-fit = a .reads-fit; writes-fit = added-fits (k .writes) d;
+      same-going = a .same-going;
+      same-order = a .same-order;
+      reads-fit = a .reads-fit;
+      writes-fit = added-fits (k .writes) d;
       same-writes =
-        λ e. has-added (k .writes) d e (a .writes-fit) hd ∙ or-comm (has (k .writes) e) (eqb e d) ∙ ap₂ _||_ (eqb-sym e d) (a .same-writes e);
+          λ e. has-added (k .writes) d e (a .writes-fit) hd ∙ or-comm (has (k .writes) e) (eqb e d) ∙ ap₂ _||_ (eqb-sym e d) (a .same-writes e);
       same-data =
-        λ e. ap (λ (b : Bool). has (k .reads) e || b) (has-added (k .writes) d e (a .writes-fit) hd)
-        ∙ last-first (has (k .reads) e) (has (k .writes) e) (eqb e d) ∙ ap₂ _||_ (eqb-sym e d) (a .same-data e);
-      same-hits = a .same-hits; same-heard = a .same-heard;
-      zombie-empty = λ g. absurd (true≢false (sym g ∙ z))
+          λ e. ap (λ (b : Bool). has (k .reads) e || b) (has-added (k .writes) d e (a .writes-fit) hd)
+          ∙ last-first (has (k .reads) e) (has (k .writes) e) (eqb e d) ∙ ap₂ _||_ (eqb-sym e d) (a .same-data e);
+      same-hits = a .same-hits;
+      same-heard = a .same-heard;
+      zombie-empty = λ g. absurd (true≢false (sym g ∙ z));
     }
 
 -- the sets meet where the attempts cross
@@ -131,28 +145,43 @@ pub agrees-struck : (k : Core) (v : View) → k .zombie ≡ false → CoreAgrees
 unfolding wrote touched any
 agrees-struck k v z a =
     record {
-      same-going = a .same-going; same-order = a .same-order; reads-fit = omega arith; writes-fit = omega arith;
+      same-going = a .same-going;
+      same-order = a .same-order;
+      reads-fit = omega arith;
+      writes-fit = omega arith;
       same-writes = has-zero;
       same-data = λ d. rw (has-zero d) refl;
       same-hits = λ g. omega (arith, a .same-hits g);
       same-heard = λ g. ap (λ (n : ℕ). 1 + n) (a .same-heard g ∙ ap (λ (b : Bool). cond b 1 0 + v .heard) z ∙ zero-add (v .heard));
-      zombie-empty = λ g. refl
+      zombie-empty = λ g. refl;
     }
 
 -- told: the mark is taken away, one call more was answered set back
 pub agrees-told : (k : Core) (v : View) → k .zombie ≡ true → CoreAgrees k v
     → CoreAgrees
-      (record {
-        jobs = k .jobs; count = k .count; active = k .active; owner = k .owner; ticket = k .ticket; aborts = k .aborts;
-        zombie = false; reads = k .reads; writes = k .writes
-      })
-      (record { going = v .going; order = v .order; tried = v .tried; hits = v .hits; heard = 1 + v .heard })
+    (record {
+      jobs = k .jobs;
+      count = k .count;
+      active = k .active;
+      owner = k .owner;
+      ticket = k .ticket;
+      aborts = k .aborts;
+      zombie = false;
+      reads = k .reads;
+      writes = k .writes;
+    })
+    (record { going = v .going; order = v .order; tried = v .tried; hits = v .hits; heard = 1 + v .heard })
 agrees-told k v z a =
     record {
-      same-going = a .same-going; same-order = a .same-order; reads-fit = a .reads-fit; writes-fit = a .writes-fit;
-      same-writes = a .same-writes; same-data = a .same-data; same-hits = a .same-hits;
+      same-going = a .same-going;
+      same-order = a .same-order;
+      reads-fit = a .reads-fit;
+      writes-fit = a .writes-fit;
+      same-writes = a .same-writes;
+      same-data = a .same-data;
+      same-hits = a .same-hits;
       same-heard = λ g. a .same-heard g ∙ ap (λ (b : Bool). cond b 1 0 + v .heard) z ∙ sym (zero-add (1 + v .heard));
-      zombie-empty = λ g. absurd (true≢false (sym g))
+      zombie-empty = λ g. absurd (true≢false (sym g));
     }
 
 -- just begun
@@ -161,10 +190,13 @@ pub agrees-begun : (k : Core) (t : ℕ) → k .active ≡ true → k .ticket ≡
 unfolding wrote touched any
 agrees-begun k t p q n z r w =
     record {
-      same-going = p; same-order = λ g. q; reads-fit = rw r (omega arith); writes-fit = rw w (omega arith);
+      same-going = p;
+      same-order = λ g. q;
+      reads-fit = rw r (omega arith);
+      writes-fit = rw w (omega arith);
       same-writes = λ d. rw w (has-zero d);
       same-data = λ d. rw (r, w, has-zero d) refl;
       same-hits = λ g. n;
       same-heard = λ g. rw z refl;
-      zombie-empty = λ g. refl
+      zombie-empty = λ g. refl;
     }

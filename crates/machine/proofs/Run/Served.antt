@@ -2,13 +2,13 @@
 use mathlib.Core.Path.{_≡_, refl, _∙_}
 use mathlib.Core.List.{List, _∷_, _++_, append-assoc}
 use Prim.Native.Nat.{ℕ}
-use Rattle.history.specs.Words.{Deed, begins, waits, commits}
-use Rattle.history.specs.Rounds.{Fate, in-progress, committed, given-up, fate}
-use Rattle.history.specs.Claims.{Served}
-use Rattle.history.proofs.Orderly.{Orderly}
-use Rattle.history.proofs.Births.{orderly-early}
-use Rattle.history.proofs.Strikes.{struck-at-most}
-use Rattle.history.proofs.Fates.{not-in-progress}
+use Rattle.machine.specs.Words.{Deed, begins, waits, commits}
+use Rattle.machine.specs.Rounds.{Fate, in-progress, committed, given-up, fate}
+use Rattle.machine.specs.Claims.{Served}
+use Rattle.machine.proofs.Run.Orderly.{Orderly}
+use Rattle.machine.proofs.Run.Births.{orderly-early}
+use Rattle.machine.proofs.Run.Strikes.{struck-at-most}
+use Rattle.machine.proofs.Run.Fates.{not-in-progress}
 
 -- what is neither in progress nor given up is committed
 committed-else : (f : Fate) → (f ≡ in-progress → ⊥) → (f ≡ given-up → ⊥) → f ≡ committed

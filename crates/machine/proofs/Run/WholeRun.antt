@@ -5,21 +5,22 @@ use mathlib.Core.List.{List, [], _∷_, _++_}
 use Prim.Native.Nat.{ℕ, zero, suc, _*_, _<_}
 use native.Mathlib.Omega.{arith}
 use lib.ListN.{length, getD, replicate}
 use Rattle.machine.specs.declared.Answer.{Answer}
 use Rattle.machine.specs.declared.Answer.the-variants.{Ready, Value}
 use Rattle.machine.specs.Answers.{named, values}
 use Rattle.machine.specs.Record.{coreAt, machineOf}
 use Rattle.machine.specs.Rule as Rule
 use Rattle.machine.specs.Rule.{World, Call, Release, Begin, Read, Write, Commit, GiveUp, Finish, rule}
-use Rattle.machine.specs.Case.{Follows, Case, is-refused, is-released, is-begun, is-told, is-valued, is-written, is-waiting, is-through, is-ended, is-finished, case-of}
-use Rattle.history.specs.Words.{Event, Deed, deeds}
-use Rattle.history.specs.Serial.{serial, version}
-use Rattle.history.specs.Claims.{Run, fresh, then, worked, ByTheRule, Served, Serial, Claim}
-use Rattle.history.proofs.Orderly.{Orderly}
-use Rattle.history.proofs.Served.{served}
-use Rattle.history.proofs.Serially.{serially}
-use Rattle.history.proofs.Agreement.{Agree}
-use Rattle.history.proofs.Steps.{Fresh, setup-fresh, agree-fresh, run-agrees}
+use Rattle.machine.specs.Follows.{Follows}
+use Rattle.machine.proofs.Case.{Case, is-refused, is-released, is-begun, is-told, is-valued, is-written, is-waiting, is-through, is-ended, is-finished, case-of}
+use Rattle.machine.specs.Words.{Event, Deed, deeds}
+use Rattle.machine.specs.Serial.{serial, version}
+use Rattle.machine.specs.Claims.{Run, fresh, then, worked, ByTheRule, Served, Serial, Claim}
+use Rattle.machine.proofs.Run.Orderly.{Orderly}
+use Rattle.machine.proofs.Run.Served.{served}
+use Rattle.machine.proofs.Run.Serially.{serially}
+use Rattle.machine.proofs.Run.Agreement.{Agree}
+use Rattle.machine.proofs.Run.Steps.{Fresh, setup-fresh, agree-fresh, run-agrees}
 
 -- ---- a beginning of a run is a run
 
@@ -68,10 +69,10 @@ by-the-rule {w₀} run =
     record {
       world-worked = run-worked run;
       answers-worked =
-        λ late early e p.
+          λ late early e p.
           let r = run-early late (e ∷ early) run p in
           let l = last-call (r .1) e early refl in
-          l .2 .answer-is ∙ ap (λ (u : World). rule (named (e .answer)) u (e .call) .answer) (run-worked (l .1))
+          l .2 .answer-is ∙ ap (λ (u : World). rule (named (e .answer)) u (e .call) .answer) (run-worked (l .1));
     }
 
 -- ---- the version that a read gives
@@ -108,13 +109,13 @@ whole-run cores objects committed pending ready {es} {w} run =
       served = served objects (deeds es) o;
       serially = rw same (serially objects (deeds es) (new .objects-few) o);
       same-cards =
-        λ late early p.
+          λ late early p.
           let r = run-early late early run p in
           ap (λ (u : World). u .committed) (sym (run-worked (r .1))) ∙ run-agrees a (r .1) .0 .same-committed
           ∙ ap (λ (n : ℕ). serial n (deeds early)) (sym same);
       same-versions =
-        λ late early c d v n p.
+          λ late early c d v n p.
           let r = run-early late (record { call = Read c d; answer = Value v n } ∷ early) run p in
           let l = last-call (r .1) (record { call = Read c d; answer = Value v n }) early refl in
-          read-version (run-agrees a (l .1) .0) (case-of (l .2)) c d v n refl refl
+          read-version (run-agrees a (l .1) .0) (case-of (l .2)) c d v n refl refl;
     }

@@ -8,12 +8,12 @@ use Prim.Native.Nat.{ℕ, _≤_, _<_}
 use lib.Dec.{eqb}
 use lib.ListN.{getD}
 use borrow.Author.Tests.{eqb-true, eq-eqb}
-use Rattle.history.specs.Words.{Deed, begins, reads, writes, waits, commits, told, gives, other, inProgress, attempt, crosses}
-use Rattle.history.specs.Serial.{effect, replays, serial, settled}
-use Rattle.history.specs.Claims.{Serial}
-use Rattle.history.proofs.Orderly.{Orderly}
-use Rattle.history.proofs.Moments.{orderly-early}
-use Rattle.history.proofs.Attempts.{Steps, no-step, read, write, replays-stood, replays-uncrossed}
+use Rattle.machine.specs.Words.{Deed, begins, reads, writes, waits, commits, told, gives, other, inProgress, attempt, crosses}
+use Rattle.machine.specs.Serial.{effect, replays, serial, settled}
+use Rattle.machine.specs.Claims.{Serial}
+use Rattle.machine.proofs.Run.Orderly.{Orderly}
+use Rattle.machine.proofs.Run.Moments.{orderly-early}
+use Rattle.machine.proofs.Run.Attempts.{Steps, no-step, read, write, replays-stood, replays-uncrossed}
 
 -- ---- what is kept of one core
 

@@ -9,9 +9,9 @@ use lib.Dec.{eqb}
 use lib.ListN.{length, getD, set, length-set}
 use lib.Seq.{getD-set-other}
 use borrow.Author.Tests.{eqb-true, eqb-false, eq-eqb}
-use Rattle.objset.specs.Laws.{one-some, both-left, both-right}
-use Rattle.history.specs.Words.{Deed, reads, writes, any, touched, wrote, crosses}
-use Rattle.history.specs.Serial.{effect, replays, stood}
+use Rattle.objset.proofs.Laws.{one-some, both-left, both-right}
+use Rattle.machine.specs.Words.{Deed, reads, writes, any, touched, wrote, crosses}
+use Rattle.machine.specs.Serial.{effect, replays, stood}
 
 -- reads and writes of cards below o, and nothing else
 pub data Steps (o : ℕ) : List Deed → Type 0 where

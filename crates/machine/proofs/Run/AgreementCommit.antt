@@ -11,28 +11,28 @@ use lib.ListN.{length, getD, List·getD-eq-default}
 use lib.Seq.{ext-getD}
 use borrow.Author.Tests.{eqb-true, eqb-false, eq-eqb, ne-eqb, ltb-true, ltb-false, not-true}
 use Rattle.objset.specs.Objset.{has, some, meeting}
-use Rattle.objset.specs.Laws.{one-some, both-left, both-right}
+use Rattle.objset.proofs.Laws.{one-some, both-left, both-right}
 use Rattle.machine.specs.declared.Machine.{Machine}
 use Rattle.machine.specs.declared.Core.{Core}
 use Rattle.machine.specs.Record.{noCore, coreAt, dataSet}
 use Rattle.machine.specs.Rule as Rule
 use Rattle.machine.specs.Rule.{World}
-use Rattle.machine.specs.Case.{Core-ok, Lent-ok}
-use Rattle.history.specs.Words.{Deed, commits, inProgress, births, born, any, wrote, crosses, attempt, strikes, struck, setBacks}
-use Rattle.history.specs.Serial.{effect, serial, version}
-use Rattle.history.proofs.Orderly.{Committing}
-use Rattle.history.proofs.View.{View, view, Over, view-other, view-commits, view-struck}
-use Rattle.history.proofs.Effects.{lastWrite, effect-long, effect-unwritten, effect-written}
-use Rattle.history.proofs.Places.{cleared-at, cleared-long, changed-at, changed-long}
-use Rattle.history.proofs.CoreAgrees.{CoreAgrees, agrees-idle, agrees-struck, meets-crosses, void-crosses, eqb-sym}
-use Rattle.history.proofs.Order.{born-apart}
-use Rattle.history.proofs.Agreement.{Agree, inside, acting, read-alone}
+use Rattle.machine.proofs.Case.{Core-ok, Lent-ok}
+use Rattle.machine.specs.Words.{Deed, commits, inProgress, births, born, any, wrote, crosses, attempt, strikes, struck, setBacks}
+use Rattle.machine.specs.Serial.{effect, serial, version}
+use Rattle.machine.proofs.Run.Orderly.{Committing}
+use Rattle.machine.proofs.Run.View.{View, view, Over, view-other, view-commits, view-struck}
+use Rattle.machine.proofs.Run.Effects.{lastWrite, effect-long, effect-unwritten, effect-written}
+use Rattle.machine.proofs.Run.Places.{cleared-at, cleared-long, changed-at, changed-long}
+use Rattle.machine.proofs.Run.CoreAgrees.{CoreAgrees, agrees-idle, agrees-struck, meets-crosses, void-crosses, eqb-sym}
+use Rattle.machine.proofs.Run.Order.{born-apart}
+use Rattle.machine.proofs.Run.Agreement.{Agree, inside, acting, read-alone}
 
 module _ {o : ℕ} {w : World} {h : List Deed} (a : Agree o w h) (c : ℕ) (ok : Lent-ok w c) where
   -- the record strikes core e where the words do
   record-strikes : (e : ℕ) → eqb c e ≡ false
       → (coreAt (w .machine) e .active && meeting (coreAt (w .machine) c .writes) (dataSet (coreAt (w .machine) e)))
-        ≡ strikes (commits c (coreAt (w .machine) c .aborts)) h e
+      ≡ strikes (commits c (coreAt (w .machine) c .aborts)) h e
   record-strikes e q =
       ap₂ _&&_ (a .each-core e .same-going)
       (meets-crosses (coreAt (w .machine) c) (coreAt (w .machine) e) (view h c) (view h e) (a .each-core c) (a .each-core e))
@@ -51,7 +51,7 @@ module _ {o : ℕ} {w : World} {h : List Deed} (a : Agree o w h) (c : ℕ) (ok :
   -- what the commit leaves of core e
   left-at : (e : ℕ) (q : Bool) → eqb c e ≡ q
       → CoreAgrees (cond q (Rule.over (coreAt (w .machine) e)) (Rule.struck (coreAt (w .machine) c .writes) (coreAt (w .machine) e)))
-        (view (commits c (coreAt (w .machine) c .aborts) ∷ h) e)
+      (view (commits c (coreAt (w .machine) c .aborts) ∷ h) e)
   unfolding Rule.struck
   left-at e true p =
       agrees-idle (Rule.over (coreAt (w .machine) e)) (view (commits c (coreAt (w .machine) c .aborts) ∷ h) e) refl refl refl refl
@@ -69,20 +69,20 @@ module _ {o : ℕ} {w : World} {h : List Deed} (a : Agree o w h) (c : ℕ) (ok :
   -- every place for a core, also those past the sixteenth, of which nothing is left to say
   cores-left : (e : ℕ)
       → CoreAgrees (getD (Rule.cleared (coreAt (w .machine) c .writes) c 0 (w .machine .core)) e noCore)
-        (view (commits c (coreAt (w .machine) c .aborts) ∷ h) e)
+      (view (commits c (coreAt (w .machine) c .aborts) ∷ h) e)
   cores-left e = go (ltb e 16) refl
     where
       go : (q : Bool) → ltb e 16 ≡ q
           → CoreAgrees (getD (Rule.cleared (coreAt (w .machine) c .writes) c 0 (w .machine .core)) e noCore)
-            (view (commits c (coreAt (w .machine) c .aborts) ∷ h) e)
+          (view (commits c (coreAt (w .machine) c .aborts) ∷ h) e)
       go true q =
           let here = cleared-at (coreAt (w .machine) c .writes) c 0 e (w .machine .core) (omega (arith, ltb-true e 16 q, a .cores-long)) in
           rw (here, zero-add e, eqb-sym e c) (left-at e (eqb c e) refl)
       go false q =
           let past : getD (w .machine .core) e noCore ≡ noCore = List·getD-eq-default (w .machine .core) noCore (omega (arith, ltb-false e 16 q, a .cores-long)) in
           let past′ : getD (Rule.cleared (coreAt (w .machine) c .writes) c 0 (w .machine .core)) e noCore ≡ noCore =
-            List·getD-eq-default (Rule.cleared (coreAt (w .machine) c .writes) c 0 (w .machine .core)) noCore
-            (omega (arith, ltb-false e 16 q, a .cores-long, cleared-long (coreAt (w .machine) c .writes) c 0 (w .machine .core))) in
+          List·getD-eq-default (Rule.cleared (coreAt (w .machine) c .writes) c 0 (w .machine .core)) noCore
+          (omega (arith, ltb-false e 16 q, a .cores-long, cleared-long (coreAt (w .machine) c .writes) c 0 (w .machine .core))) in
           let other : eqb c e ≡ false = ne-eqb c e (λ s. omega (arith, ltb-false e 16 q, inside a (ok .core-ok))) in
           let idle : inProgress h e ≡ false = sym (a .each-core e .same-going) ∙ ap (λ (k : Core). k .active) past in
           rw (past′, view-other (commits c (coreAt (w .machine) c .aborts)) h e other (rw (other, idle) refl)) (rw past at (a .each-core e))
@@ -94,12 +94,12 @@ module _ {o : ℕ} {w : World} {h : List Deed} (a : Agree o w h) (c : ℕ) (ok :
   cards-left =
       ext-getD 0 (Rule.changed (coreAt (w .machine) c .writes) (λ d v. getD (w .pending) (c * w .machine .objects + d) 0) 0 (w .committed)) (effect (attempt h c) (serial o h))
       (changed-long (coreAt (w .machine) c .writes) 0 (λ d v. getD (w .pending) (c * w .machine .objects + d) 0) (w .committed)
-        ∙ ap length (a .same-committed) ∙ sym (effect-long (attempt h c) (serial o h)))
+      ∙ ap length (a .same-committed) ∙ sym (effect-long (attempt h c) (serial o h)))
       (λ d l. at d (omega (arith, simp changed-long at l)))
     where
       at : (d : ℕ) → d < length (w .committed)
           → getD (Rule.changed (coreAt (w .machine) c .writes) (λ e v. getD (w .pending) (c * w .machine .objects + e) 0) 0 (w .committed)) d 0
-            ≡ getD (effect (attempt h c) (serial o h)) d 0
+          ≡ getD (effect (attempt h c) (serial o h)) d 0
       at d l =
           changed-at (coreAt (w .machine) c .writes) 0 d (λ e v. getD (w .pending) (c * w .machine .objects + e) 0) (w .committed) l
           ∙ ap (λ (i : ℕ). cond (has (coreAt (w .machine) c .writes) i) (getD (w .pending) (c * w .machine .objects + i) 0) (getD (w .committed) d 0)) (zero-add d)
@@ -123,17 +123,20 @@ module _ {o : ℕ} {w : World} {h : List Deed} (a : Agree o w h) (c : ℕ) (ok :
   step-commits =
       record {
         cores-long = cleared-long (coreAt (w .machine) c .writes) c 0 (w .machine .core) ∙ a .cores-long;
-        cores-few = a .cores-few; objects-few = a .objects-few; same-objects = a .same-objects;
+        cores-few = a .cores-few;
+        objects-few = a .objects-few;
+        same-objects = a .same-objects;
         versions-long = changed-long (coreAt (w .machine) c .writes) 0 (λ d v. v + 1) (w .machine .versions) ∙ a .versions-long;
         same-tickets = a .same-tickets ∙ sym (zero-add (births h));
         each-core = cores-left;
         same-committed = cards-left;
         same-pending = λ e d l t. words e d l (eqb c e) refl t;
-        same-versions = versions-left
+        same-versions = versions-left;
       }
     where
       x : Deed
       x = commits c (coreAt (w .machine) c .aborts)
+
       words : (e d : ℕ) → d < o → (q : Bool) → eqb c e ≡ q → wrote (attempt (x ∷ h) e) d ≡ true → getD (w .pending) (e * o + d) 0 ≡ lastWrite (attempt (x ∷ h) e) d
       words e d l true q t =
           absurd (true≢false (sym (rw (view-commits h c (coreAt (w .machine) c .aborts) .1) at (rw (← eqb-true c e q) at t))))
@@ -154,7 +157,7 @@ module _ {o : ℕ} {w : World} {h : List Deed} (a : Agree o w h) (c : ℕ) (ok :
       record {
         acting = acting a ok z;
         reports = a .each-core c .same-hits (sym (a .each-core c .same-going) ∙ ok .active);
-        strikes-later = λ b s. later b s
+        strikes-later = λ b s. later b s;
       }
     where
       -- a core with a transaction is one of the sixteen
@@ -165,6 +168,7 @@ module _ {o : ℕ} {w : World} {h : List Deed} (a : Agree o w h) (c : ℕ) (ok :
           go true q = ltb-true b 16 q
           go false q =
               absurd (true≢false (sym p ∙ ap (λ (k : Core). k .active) (List·getD-eq-default (w .machine .core) noCore (omega (arith, ltb-false b 16 q, a .cores-long)))))
+
       -- a conflicting transaction has no smaller ticket
       not-ahead : (b : ℕ) → coreAt (w .machine) b .active ≡ true → meeting (coreAt (w .machine) c .writes) (dataSet (coreAt (w .machine) b)) ≡ true
           → ltb (coreAt (w .machine) b .ticket) (coreAt (w .machine) c .ticket) ≡ false
@@ -173,6 +177,7 @@ module _ {o : ℕ} {w : World} {h : List Deed} (a : Agree o w h) (c : ℕ) (ok :
           go : (q : Bool) → ltb (coreAt (w .machine) b .ticket) (coreAt (w .machine) c .ticket) ≡ q → q ≡ false
           go true q = sym (one-some 16 (Rule.contender (w .machine) c) b (few b p) (rw (p, q, m) refl)) ∙ free
           go false q = refl
+
       later : (b : ℕ) → strikes (commits c (coreAt (w .machine) c .aborts)) h b ≡ true → born h c < born h b
       later b s =
           let other : eqb c b ≡ false = not-true (eqb c b) (both-left (not (eqb c b)) (inProgress h b) (both-left (not (eqb c b) && inProgress h b) _ s)) in
@@ -180,7 +185,7 @@ module _ {o : ℕ} {w : World} {h : List Deed} (a : Agree o w h) (c : ℕ) (ok :
           let here : inProgress h c ≡ true = sym (a .each-core c .same-going) ∙ ok .active in
           let active : coreAt (w .machine) b .active ≡ true = a .each-core b .same-going ∙ going in
           let meets : meeting (coreAt (w .machine) c .writes) (dataSet (coreAt (w .machine) b)) ≡ true =
-            both-right (coreAt (w .machine) b .active) _ (record-strikes b other ∙ s) in
+          both-right (coreAt (w .machine) b .active) _ (record-strikes b other ∙ s) in
           let order : ltb (coreAt (w .machine) b .ticket) (coreAt (w .machine) c .ticket) ≡ false = not-ahead b active meets in
           let apart = born-apart h c b here going other in
           omega (arith, ltb-false (coreAt (w .machine) b .ticket) (coreAt (w .machine) c .ticket) order, a .each-core b .same-order going, a .each-core c .same-order here, apart)

@@ -6,8 +6,8 @@ use Prim.Native.Nat.{ℕ, _<_}
 use native.Mathlib.Omega.{arith}
 use lib.Dec.{eqb}
 use borrow.Author.Tests.{eqb-true, eqb-false}
-use Rattle.history.specs.Words.{Deed, begins, reads, writes, waits, commits, told, gives, other, beginsOn, inProgress, births, born}
-use Rattle.history.proofs.Births.{Going, begun, kept, going, born-begun, born-kept, born-below}
+use Rattle.machine.specs.Words.{Deed, begins, reads, writes, waits, commits, told, gives, other, beginsOn, inProgress, births, born}
+use Rattle.machine.proofs.Run.Births.{Going, begun, kept, going, born-begun, born-kept, born-below}
 
 one-begins : (x : Deed) (b c : ℕ) → beginsOn x b ≡ true → beginsOn x c ≡ true → b ≡ c
 one-begins (begins e) b c p q = sym (eqb-true e b p) ∙ eqb-true e c q

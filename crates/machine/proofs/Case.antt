@@ -16,14 +16,8 @@ use Rattle.machine.specs.declared.Outcome.{Outcome}
 use Rattle.machine.specs.Record.{coreAt}
 use Rattle.machine.specs.Sound.{sound}
 use Rattle.machine.specs.Answers.{named}
+use Rattle.machine.specs.Follows.{Follows}
 use Rattle.machine.specs.Rule.{World, Result, withMachine, first, unless, unlessLent, misfit, unsound, wrongTables, noSuchCore, noSuchObject, fullList, jobless, inProgress, ticketsSpent, released, release, begun, begin, told, accessRefusal, valueRead, valued, read, written, write, contender, blocked, through, waiting, commit, ended, giveUp, finished, finish, rule, unlent, Call, Release, Begin, Read, Write, Commit, GiveUp, Finish, coreOf}
-
--- what the promise of a call says of it: the answer and the next world are the rule's, and the core that waits names holds a
--- conflicting transaction with a smaller ticket
-pub record Follows (w : World) (call : Call) (a : Answer) (w′ : World) : Type 0 where
-  pub answer-is : a ≡ rule (named a) w call .answer
-  pub world-is : w′ ≡ rule (named a) w call .world
-  pub waits-for : (e : ℕ) → a ≡ Waits e → contender (w .machine) (coreOf call) e ≡ true
 
 -- the record is sound and the core is one of the machine's
 pub record Core-ok (m : Machine) (c : ℕ) : Type 0 where

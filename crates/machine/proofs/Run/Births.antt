@@ -6,8 +6,8 @@ use mathlib.Core.List.{List, [], _∷_, _++_}
 use Prim.Native.Nat.{ℕ, suc, _≤_, _<_}
 use native.Mathlib.Omega.{arith}
 use borrow.Author.Tests.{eqb-true}
-use Rattle.history.specs.Words.{Deed, begins, reads, writes, waits, commits, told, gives, other, beginsOn, endsOn, inProgress, births, born}
-use Rattle.history.proofs.Orderly.{Orderly, Allowed}
+use Rattle.machine.specs.Words.{Deed, begins, reads, writes, waits, commits, told, gives, other, beginsOn, endsOn, inProgress, births, born}
+use Rattle.machine.proofs.Run.Orderly.{Orderly, Allowed}
 
 -- a test does not both pass and fail
 pub clash : {A : Type 0} {b : Bool} → b ≡ true → b ≡ false → A

@@ -2,8 +2,8 @@
 use mathlib.Core.Path.{_≡_, subst}
 use mathlib.Core.List.{List, [], _∷_, _++_}
 use Prim.Native.Nat.{ℕ}
-use Rattle.history.specs.Words.{Deed}
-use Rattle.history.proofs.Orderly.{Orderly}
+use Rattle.machine.specs.Words.{Deed}
+use Rattle.machine.proofs.Run.Orderly.{Orderly}
 
 drop-late : (o : ℕ) (late early : List Deed) → Orderly o (late ++ early) → Orderly o early
 drop-late o [] early r = r

@@ -5,8 +5,8 @@ use mathlib.Core.Bool.{Bool, true, false}
 use mathlib.Core.List.{List, [], _∷_}
 use Prim.Native.Nat.{ℕ, suc, _<_}
 use lib.ListN.{getD}
-use Rattle.history.specs.Words.{Deed, begins, reads, writes, waits, commits, told, gives, other, inProgress, born, attempt, strikes, conflict, struck, setBacks}
-use Rattle.history.specs.Serial.{effect, serial}
+use Rattle.machine.specs.Words.{Deed, begins, reads, writes, waits, commits, told, gives, other, inProgress, born, attempt, strikes, conflict, struck, setBacks}
+use Rattle.machine.specs.Serial.{effect, serial}
 
 -- a transaction is in progress on core c and every strike on it has been told
 pub record Acting (h : List Deed) (c : ℕ) : Type 0 where

@@ -7,12 +7,12 @@ use Prim.Native.Nat.{ℕ, _+_, _≤_, _<_}
 use native.Mathlib.Omega.{arith}
 use lib.Dec.{ltb}
 use borrow.Author.Tests.{ltb-true, lt-ltb, eq-eqb}
-use Rattle.objset.specs.Laws.{both-left, both-right}
+use Rattle.objset.proofs.Laws.{both-left, both-right}
 use Rattle.machine.specs.Record.{tally}
-use Rattle.history.specs.Words.{Deed, begins, reads, writes, waits, commits, told, gives, other, beginsOn, endsOn, inProgress, births, born, ahead, strikes, struck}
-use Rattle.history.proofs.Orderly.{Orderly, Allowed}
-use Rattle.history.proofs.Tally.{tally-mono, tally-less}
-use Rattle.history.proofs.Births.{clash, Going, begun, kept, going, ended, born-begun, born-kept, born-below, older-kept}
+use Rattle.machine.specs.Words.{Deed, begins, reads, writes, waits, commits, told, gives, other, beginsOn, endsOn, inProgress, births, born, ahead, strikes, struck}
+use Rattle.machine.proofs.Run.Orderly.{Orderly, Allowed}
+use Rattle.machine.proofs.Run.Tally.{tally-mono, tally-less}
+use Rattle.machine.proofs.Run.Births.{clash, Going, begun, kept, going, ended, born-begun, born-kept, born-below, older-kept}
 
 -- ---- who strikes
 

@@ -1,4 +1,0 @@
-pub mod Words
-pub mod Rounds
-pub mod Serial
-pub mod Claims

@@ -1,0 +1,20 @@
+mod Orderly
+mod Births
+mod Order
+mod Tally
+mod Strikes
+mod Eldest
+mod RoundsBound
+mod Fates
+mod Served
+mod Attempts
+mod Moments
+mod Serially
+mod View
+mod Effects
+mod Places
+mod CoreAgrees
+mod Agreement
+mod AgreementCommit
+mod Steps
+pub mod WholeRun
