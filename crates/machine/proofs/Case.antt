@@ -17,7 +17,7 @@ use Rattle.machine.specs.Record.{coreAt}
 use Rattle.machine.specs.Sound.{sound}
 use Rattle.machine.specs.Answers.{named}
 use Rattle.machine.specs.Follows.{Follows}
-use Rattle.machine.specs.Rule.{World, Result, withMachine, first, unless, unlessLent, misfit, unsound, wrongTables, noSuchCore, noSuchObject, fullList, jobless, inProgress, ticketsSpent, released, release, begun, begin, told, accessRefusal, valueRead, valued, read, written, write, contender, blocked, through, waiting, commit, ended, giveUp, finished, finish, rule, unlent, Call, Release, Begin, Read, Write, Commit, GiveUp, Finish, coreOf}
+use Rattle.machine.specs.Rule.{World, Result, withMachine, first, unless, unlessLent, misfit, unsound, wrongTables, noSuchCore, noSuchObject, fullList, jobless, inProgress, ticketsSpent, released, release, begun, begin, told, accessRefusal, valueRead, valued, read, written, write, contender, blocked, through, waiting, commitRefusal, commit, ended, giveUp, finished, finish, rule, unlent, Call, Release, Begin, Read, Write, Commit, GiveUp, Finish, coreOf}
 
 -- the record is sound and the core is one of the machine's
 pub record Core-ok (m : Machine) (c : ℕ) : Type 0 where
@@ -85,7 +85,7 @@ lent-ok w c ok t a =
 
 -- ---- the rule of each call, by cases
 
-release-case : (w : World) (c number deadline : ℕ)
+pub release-case : (w : World) (c number deadline : ℕ)
     → Case w (Release c number deadline) (release (w .machine) c number deadline .answer) (withMachine w (release (w .machine) c number deadline .machine))
 unfolding release
 release-case w c number deadline = go (first tests) refl
@@ -108,7 +108,7 @@ release-case w c number deadline = go (first tests) refl
         unfold unless in is-released (core-ok m c (p .0) (q .0)) (leb-false 8 (coreAt m c .count) (r .0))
     go (suc n) e = unfold unless in is-refused
 
-begin-case : (w : World) (c : ℕ) → Case w (Begin c) (begin (w .machine) c .answer) (withMachine w (begin (w .machine) c .machine))
+pub begin-case : (w : World) (c : ℕ) → Case w (Begin c) (begin (w .machine) c .answer) (withMachine w (begin (w .machine) c .machine))
 unfolding begin
 begin-case w c = go (first tests) refl
   where
@@ -129,7 +129,7 @@ begin-case w c = go (first tests) refl
         is-begun (core-ok m c (p .0) (q .0)) (eqb-false (coreAt m c .count) 0 (r .0)) (s .0) (leb-false 4294967295 (m .tickets) (t .0))
     go (suc n) e = unfold unless in is-refused
 
-give-up-case : (w : World) (c : ℕ) → Case w (GiveUp c) (giveUp (w .machine) c .answer) (withMachine w (giveUp (w .machine) c .machine))
+pub give-up-case : (w : World) (c : ℕ) → Case w (GiveUp c) (giveUp (w .machine) c .answer) (withMachine w (giveUp (w .machine) c .machine))
 unfolding giveUp
 give-up-case w c = go (first tests) refl
   where
@@ -147,7 +147,7 @@ give-up-case w c = go (first tests) refl
         unfold unless ended in is-ended (core-ok m c (p .0) (q .0)) (not-false (inProgress m c) (r .0))
     go (suc n) e = unfold unless in is-refused
 
-finish-case : (w : World) (c : ℕ) → Case w (Finish c) (finish (w .machine) c .answer) (withMachine w (finish (w .machine) c .machine))
+pub finish-case : (w : World) (c : ℕ) → Case w (Finish c) (finish (w .machine) c .answer) (withMachine w (finish (w .machine) c .machine))
 unfolding finish
 finish-case w c = go (first tests) refl
   where
@@ -180,7 +180,7 @@ access-ok w c d e =
     m : Machine
     m = w .machine
 
-read-case : (w : World) (c d : ℕ) → Case w (Read c d) (read w c d .answer) (read w c d .world)
+pub read-case : (w : World) (c d : ℕ) → Case w (Read c d) (read w c d .answer) (read w c d .world)
 unfolding read
 read-case w c d = go (accessRefusal w c d) refl (coreAt (w .machine) c .zombie) refl
   where
@@ -190,7 +190,7 @@ read-case w c d = go (accessRefusal w c d) refl (coreAt (w .machine) c .zombie) 
     go zero e false z = let ok = access-ok w c d e in unfold unlessLent in is-valued (ok .0) (ok .1) z
     go (suc n) e z t = unfold unlessLent in is-refused
 
-write-case : (w : World) (c d v : ℕ) → Case w (Write c d v) (write w c d v .answer) (write w c d v .world)
+pub write-case : (w : World) (c d v : ℕ) → Case w (Write c d v) (write w c d v .answer) (write w c d v .world)
 unfolding write
 write-case w c d v = go (accessRefusal w c d) refl (coreAt (w .machine) c .zombie) refl
   where
@@ -200,34 +200,36 @@ write-case w c d v = go (accessRefusal w c d) refl (coreAt (w .machine) c .zombi
     go zero e false z = let ok = access-ok w c d e in unfold unlessLent written in is-written (ok .0) (ok .1) z
     go (suc n) e z t = unfold unlessLent in is-refused
 
--- the core e that waits names contends, where the answer is waits
-commit-case : (w : World) (c e : ℕ) → (commit e w c .answer ≡ Waits e → contender (w .machine) c e ≡ true)
-    → Case w (Commit c) (commit e w c .answer) (commit e w c .world)
-unfolding commit
-commit-case w c e = go (first tests) refl (coreAt m c .zombie) refl (blocked m c) refl
+-- what no refusal of commit leaves
+commit-ok : (w : World) (c : ℕ) → commitRefusal w c ≡ 0 → Lent-ok w c
+unfolding commitRefusal
+commit-ok w c e =
+    let p = passed (unsound m) 1 ((wrongTables w, 3) ∷ (noSuchCore m c, 4) ∷ (not (inProgress m c), 9) ∷ []) e in
+    let q = passed (wrongTables w) 2 ((noSuchCore m c, 4) ∷ (not (inProgress m c), 9) ∷ []) (p .1) in
+    let r = passed (noSuchCore m c) 3 ((not (inProgress m c), 9) ∷ []) (q .1) in
+    let s = passed (not (inProgress m c)) 8 [] (r .1) in
+    lent-ok w c (core-ok m c (p .0) (r .0)) (q .0) (s .0)
   where
     m : Machine
     m = w .machine
 
-    tests : List (Bool × ℕ)
-    tests = (unsound m, 2) ∷ (wrongTables w, 3) ∷ (noSuchCore m c, 4) ∷ (not (inProgress m c), 9) ∷ []
-
-    ok : first tests ≡ 0 → Lent-ok w c
-    ok z =
-        let p = passed (unsound m) 1 ((wrongTables w, 3) ∷ (noSuchCore m c, 4) ∷ (not (inProgress m c), 9) ∷ []) z in
-        let q = passed (wrongTables w) 2 ((noSuchCore m c, 4) ∷ (not (inProgress m c), 9) ∷ []) (p .1) in
-        let r = passed (noSuchCore m c) 3 ((not (inProgress m c), 9) ∷ []) (q .1) in
-        let s = passed (not (inProgress m c)) 8 [] (r .1) in
-        lent-ok w c (core-ok m c (p .0) (r .0)) (q .0) (s .0)
+-- the core e that waits names contends, where the answer is waits
+pub commit-case : (w : World) (c e : ℕ) → (commit e w c .answer ≡ Waits e → contender (w .machine) c e ≡ true)
+    → Case w (Commit c) (commit e w c .answer) (commit e w c .world)
+unfolding commit
+commit-case w c e = go (commitRefusal w c) refl (coreAt m c .zombie) refl (blocked m c) refl
+  where
+    m : Machine
+    m = w .machine
 
     done : ℕ → Bool → Bool → Result
     done r z b = unlessLent r w (cond z (told w c) (cond b (waiting w e) (through w c)))
 
-    go : (r : ℕ) → first tests ≡ r → (z : Bool) → coreAt m c .zombie ≡ z → (b : Bool) → blocked m c ≡ b
+    go : (r : ℕ) → commitRefusal w c ≡ r → (z : Bool) → coreAt m c .zombie ≡ z → (b : Bool) → blocked m c ≡ b
         → (done r z b .answer ≡ Waits e → contender m c e ≡ true) → Case w (Commit c) (done r z b .answer) (done r z b .world)
-    go zero t true z b u waits = unfold unlessLent told in is-told asks-commit (ok t) z
-    go zero t false z true u waits = unfold unlessLent in is-waiting (ok t) z (waits refl)
-    go zero t false z false u waits = unfold unlessLent through in is-through (ok t) z u
+    go zero t true z b u waits = unfold unlessLent told in is-told asks-commit (commit-ok w c t) z
+    go zero t false z true u waits = unfold unlessLent in is-waiting (commit-ok w c t) z (waits refl)
+    go zero t false z false u waits = unfold unlessLent through in is-through (commit-ok w c t) z u
     go (suc n) t z y b u waits = unfold unlessLent in is-refused
 
 -- a call that follows the rule is one of the cases

@@ -1,2 +1,3 @@
 pub mod Case
+pub mod CanFollow
 pub mod Run

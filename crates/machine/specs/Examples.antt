@@ -11,7 +11,7 @@ use Rattle.machine.specs.declared.Answer.the-variants.{Ready, Running, Q
 use Rattle.machine.specs.Record.{tally, least, running}
 use Rattle.machine.specs.Sound.{inRange, setsWithin, ownerListed, idleClear, zombieEmpty, atMostEight, unusedJobs, lackedCores, lackedObjects, ownerFirst, ticketsDiffer, ticketsGiven, ticketsCounted, versionsBounded, ahead, abortsBounded, sound}
 use Rattle.machine.specs.Answers.{kind, values, named, sameList, sameAnswer}
-use Rattle.machine.specs.Rule.{World, Result, first, unless, unlessLent, setup, released, release, begun, begin, told, accessRefusal, valueRead, valued, read, written, write, contender, blocked, struck, cleared, changed, through, commit, ended, giveUp, finished, finish, rule, Call, Release, Begin, Read, Write, Commit, GiveUp, Finish}
+use Rattle.machine.specs.Rule.{World, Result, first, unless, unlessLent, setup, released, release, begun, begin, told, accessRefusal, valueRead, valued, read, written, write, contender, blocked, struck, cleared, changed, through, commitRefusal, commit, ended, giveUp, finished, finish, rule, Call, Release, Begin, Read, Write, Commit, GiveUp, Finish}
 
 -- a call and the answer that document 01 says it gets
 pub record Expected : Type 0 where
@@ -58,5 +58,5 @@ caseA =
     }
 
 all : allHold (caseA ∷ []) ≡ true
-unfolding allHold holds follows caseA rule setup first unless unlessLent released release begun begin told accessRefusal valueRead valued read written write contender blocked struck cleared changed through commit ended giveUp finished finish kind values named sameList sameAnswer tally least running inRange setsWithin ownerListed idleClear zombieEmpty atMostEight unusedJobs lackedCores lackedObjects ownerFirst ticketsDiffer ticketsGiven ticketsCounted versionsBounded ahead abortsBounded sound has collect some each none added joined meeting below
+unfolding allHold holds follows caseA rule setup first unless unlessLent released release begun begin told accessRefusal valueRead valued read written write contender blocked struck cleared changed through commitRefusal commit ended giveUp finished finish kind values named sameList sameAnswer tally least running inRange setsWithin ownerListed idleClear zombieEmpty atMostEight unusedJobs lackedCores lackedObjects ownerFirst ticketsDiffer ticketsGiven ticketsCounted versionsBounded ahead abortsBounded sound has collect some each none added joined meeting below
 all = refl

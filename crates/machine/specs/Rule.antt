@@ -312,12 +312,15 @@ through w c =
 abbrev pub waiting : World → ℕ → Result
 waiting w e = record { answer = Waits e; world = w }
 
+unfoldable pub commitRefusal : World → ℕ → ℕ
+commitRefusal w c =
+    first
+    ((unsound (w .machine), 2) ∷ (wrongTables w, 3) ∷ (noSuchCore (w .machine) c, 4) ∷ (not (inProgress (w .machine) c), 9) ∷ [])
+
 -- e is the core that waits names
 unfoldable pub commit : ℕ → World → ℕ → Result
 commit e w c =
-    unlessLent
-    (first
-    ((unsound (w .machine), 2) ∷ (wrongTables w, 3) ∷ (noSuchCore (w .machine) c, 4) ∷ (not (inProgress (w .machine) c), 9) ∷ [])) w
+    unlessLent (commitRefusal w c) w
     (cond (coreAt (w .machine) c .zombie) (told w c) (cond (blocked (w .machine) c) (waiting w e) (through w c)))
 
 -- ---- give up: the transaction ends without effect

@@ -12,6 +12,7 @@ use borrow.Author.Tests.{eqb-true, eqb-false, eq-eqb}
 use Rattle.objset.proofs.Laws.{one-some, both-left, both-right}
 use Rattle.machine.specs.Words.{Deed, reads, writes, any, touched, wrote, crosses}
 use Rattle.machine.specs.Serial.{effect, replays, stood}
+use Rattle.machine.proofs.Run.Effects.{effect-long, effect-unwritten}
 
 -- reads and writes of cards below o, and nothing else
 pub data Steps (o : ℕ) : List Deed → Type 0 where
@@ -20,24 +21,6 @@ pub data Steps (o : ℕ) : List Deed → Type 0 where
   write : {a : List Deed} (c d v : ℕ) → d < o → Steps o a → Steps o (writes c d v ∷ a)
 
 -- ---- what a run leaves
-
-pub effect-length : {o : ℕ} {a : List Deed} → Steps o a → (t : List ℕ) → length (effect a t) ≡ length t
-unfolding effect
-effect-length no-step t = refl
-effect-length (read c d v l s) t = effect-length s t
-effect-length (write {a = a} c d v l s) t = length-set (effect a t) d v ∙ effect-length s t
-
--- a card that was not written is as it was
-pub effect-unwritten : {o : ℕ} {a : List Deed} → Steps o a → (t : List ℕ) (d : ℕ) → wrote a d ≡ false → getD (effect a t) d 0 ≡ getD t d 0
-unfolding effect wrote any
-effect-unwritten no-step t d w = refl
-effect-unwritten (read c e v l s) t d w = effect-unwritten s t d w
-effect-unwritten (write {a = a} c e v l s) t d w = go (eqb e d) refl w (effect-unwritten s t d)
-  where
-    go : (q : Bool) → eqb e d ≡ q → (q || wrote a d) ≡ false → (wrote a d ≡ false → getD (effect a t) d 0 ≡ getD t d 0)
-        → getD (set (effect a t) e v) d 0 ≡ getD t d 0
-    go true p f more = absurd (true≢false f)
-    go false p f more = getD-set-other (effect a t) e d v 0 (λ r. eqb-false e d p (sym r)) ∙ more f
 
 -- a store keeps two tables alike at card e
 set-alike : (t u : List ℕ) (d v e : ℕ) → length t ≡ length u → getD t e 0 ≡ getD u e 0 → getD (set t d v) e 0 ≡ getD (set u d v) e 0
@@ -56,7 +39,7 @@ unfolding effect
 effect-alike no-step t u e l p = p
 effect-alike (read c d v b s) t u e l p = effect-alike s t u e l p
 effect-alike (write {a = a} c d v b s) t u e l p =
-    set-alike (effect a t) (effect a u) d v e (effect-length s t ∙ l ∙ sym (effect-length s u)) (effect-alike s t u e l p)
+    set-alike (effect a t) (effect a u) d v e (effect-long a t ∙ l ∙ sym (effect-long a u)) (effect-alike s t u e l p)
 
 -- ---- what a run reads
 
@@ -79,7 +62,7 @@ replays-stood (read {a = a} c d v b s) t r =
   where
     go : (q : Bool) → wrote a d ≡ q → cond q true (eqb v (getD t d 0)) ≡ true
     go true w = refl
-    go false w = ap (eqb v) (sym (effect-unwritten s t d w)) ∙ both-left (eqb v (getD (effect a t) d 0)) (replays a t) r
+    go false w = ap (eqb v) (sym (effect-unwritten a t d w)) ∙ both-left (eqb v (getD (effect a t) d 0)) (replays a t) r
 replays-stood (write c d v b s) t r = replays-stood s t r
 
 -- ---- what a run of another attempt changes
@@ -103,7 +86,7 @@ pub replays-uncrossed : {o : ℕ} {a b : List Deed} → o ≤ 64 → Steps o a �
     → replays a (effect b t) ≡ replays a t
 unfolding crosses
 replays-uncrossed {o} {a} {b} fits s r t apart =
-    replays-alike s (effect b t) t (effect-length r t) (λ d w. effect-unwritten r t d (unwritten d w (wrote b d) refl))
+    replays-alike s (effect b t) t (effect-long b t) (λ d w. effect-unwritten b t d (unwritten d w (wrote b d) refl))
   where
     unwritten : (d : ℕ) → touched a d ≡ true → (q : Bool) → wrote b d ≡ q → q ≡ false
     unwritten d w true p =

@@ -13,14 +13,9 @@ use Rattle.machine.proofs.Run.Orderly.{Orderly, Allowed}
 pub clash : {A : Type 0} {b : Bool} → b ≡ true → b ≡ false → A
 clash p q = absurd (true≢false (sym p ∙ q))
 
--- a beginning of an orderly list is orderly
-pub orderly-early : (o : ℕ) (h late early : List Deed) → h ≡ late ++ early → Orderly o h → Orderly o early
-orderly-early o h [] early e p = rw e at p
-orderly-early o h (x ∷ late) early e p = orderly-early o (late ++ early) late early refl ((rw e at p) .1)
-
 -- ---- a begin
 
-begun-is : (x : Deed) (c : ℕ) → beginsOn x c ≡ true → x ≡ begins c
+pub begun-is : (x : Deed) (c : ℕ) → beginsOn x c ≡ true → x ≡ begins c
 begun-is (begins b) c e = rw (eqb-true b c e)
 begun-is (reads b d v) c e = clash e refl
 begun-is (writes b d v) c e = clash e refl

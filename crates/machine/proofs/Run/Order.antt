@@ -5,19 +5,12 @@ use mathlib.Core.List.{List, [], _∷_}
 use Prim.Native.Nat.{ℕ, _<_}
 use native.Mathlib.Omega.{arith}
 use lib.Dec.{eqb}
-use borrow.Author.Tests.{eqb-true, eqb-false}
-use Rattle.machine.specs.Words.{Deed, begins, reads, writes, waits, commits, told, gives, other, beginsOn, inProgress, births, born}
-use Rattle.machine.proofs.Run.Births.{Going, begun, kept, going, born-begun, born-kept, born-below}
+use borrow.Author.Tests.{eqb-false}
+use Rattle.machine.specs.Words.{Deed, begins, inProgress, born}
+use Rattle.machine.proofs.Run.Births.{begun-is, Going, begun, kept, going, born-begun, born-kept, born-below}
 
-one-begins : (x : Deed) (b c : ℕ) → beginsOn x b ≡ true → beginsOn x c ≡ true → b ≡ c
-one-begins (begins e) b c p q = sym (eqb-true e b p) ∙ eqb-true e c q
-one-begins (reads e d v) b c p q = absurd (true≢false (sym p))
-one-begins (writes e d v) b c p q = absurd (true≢false (sym p))
-one-begins (waits e d) b c p q = absurd (true≢false (sym p))
-one-begins (commits e n) b c p q = absurd (true≢false (sym p))
-one-begins (told e) b c p q = absurd (true≢false (sym p))
-one-begins (gives e) b c p q = absurd (true≢false (sym p))
-one-begins other b c p q = absurd (true≢false (sym p))
+same-core : {b c : ℕ} → begins b ≡ begins c → b ≡ c
+same-core p = cc
 
 pub born-apart : (h : List Deed) (b c : ℕ) → inProgress h b ≡ true → inProgress h c ≡ true → eqb b c ≡ false → born h b ≡ born h c → ⊥
 unfolding inProgress
@@ -25,7 +18,7 @@ born-apart [] b c p q r e = absurd (true≢false (sym p))
 born-apart (x ∷ h) b c p q r e = go (going x h b p) (going x h c q) (λ p q. born-apart h b c p q r)
   where
     go : Going x h b → Going x h c → (inProgress h b ≡ true → inProgress h c ≡ true → born h b ≡ born h c → ⊥) → ⊥
-    go (begun p) (begun q) rest = eqb-false b c r (one-begins x b c p q)
+    go (begun p) (begun q) rest = eqb-false b c r (same-core (sym (begun-is x b p) ∙ begun-is x c q))
     go (begun p) (kept q f g) rest = omega (arith, born-begun x h b p, born-kept x h c q, born-below h c g)
     go (kept p f g) (begun q) rest = omega (arith, born-kept x h b p, born-begun x h c q, born-below h b g)
     go (kept p f g) (kept q i j) rest = rest g j (sym (born-kept x h b p) ∙ e ∙ born-kept x h c q)

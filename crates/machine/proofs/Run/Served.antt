@@ -6,7 +6,7 @@ use Rattle.machine.specs.Words.{Deed, begins, waits, commits}
 use Rattle.machine.specs.Rounds.{Fate, in-progress, committed, given-up, fate}
 use Rattle.machine.specs.Claims.{Served}
 use Rattle.machine.proofs.Run.Orderly.{Orderly}
-use Rattle.machine.proofs.Run.Births.{orderly-early}
+use Rattle.machine.proofs.Run.Moments.{orderly-early}
 use Rattle.machine.proofs.Run.Strikes.{struck-at-most}
 use Rattle.machine.proofs.Run.Fates.{not-in-progress}
 
