@@ -29,7 +29,7 @@ joined k j = withList k (set (k .jobs) (k .count) j) (k .count + 1)
 
 -- only a commit behind a contender is answered waits
 waits-only : {w w′ : World} {call : Call} {a : Answer} → Case w call a w′ → (e : ℕ) → a ≡ Waits e → contender (w .machine) (coreOf call) e ≡ true
-unfolding released finished valued
+unfolding released finished valued through
 waits-only is-refused e p = let z : _≡_ {A = ℕ} 0 1 = cc in absurd (omega arith)
 waits-only {w = w} (is-released {c = c} {number = n} {deadline = d} ok room) e p =
     absurd (no-waits (eqb (running (joined (coreAt (w .machine) c) (record { number = n; deadline = d }))) (coreAt (w .machine) c .count)) e p)

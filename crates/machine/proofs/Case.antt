@@ -52,7 +52,7 @@ pub data Case (w : World) : Call → Answer → World → Type 0 where
   is-waiting : {c e : ℕ} → Lent-ok w c → coreAt (w .machine) c .zombie ≡ false → contender (w .machine) c e ≡ true
       → Case w (Commit c) (Waits e) w
   is-through : {c : ℕ} → Lent-ok w c → coreAt (w .machine) c .zombie ≡ false → blocked (w .machine) c ≡ false
-      → Case w (Commit c) (Committed (coreAt (w .machine) c .aborts)) (through w c .world)
+      → Case w (Commit c) (through w c .answer) (through w c .world)
   is-ended : {c : ℕ} → Core-ok (w .machine) c → coreAt (w .machine) c .active ≡ true
       → Case w (GiveUp c) Ended (withMachine w (ended (w .machine) c .machine))
   is-finished : {c : ℕ} → Core-ok (w .machine) c → (coreAt (w .machine) c .count ≡ 0 → ⊥) → coreAt (w .machine) c .active ≡ false
@@ -229,7 +229,7 @@ commit-case w c e = go (commitRefusal w c) refl (coreAt m c .zombie) refl (block
         → (done r z b .answer ≡ Waits e → contender m c e ≡ true) → Case w (Commit c) (done r z b .answer) (done r z b .world)
     go zero t true z b u waits = unfold unlessLent told in is-told asks-commit (commit-ok w c t) z
     go zero t false z true u waits = unfold unlessLent in is-waiting (commit-ok w c t) z (waits refl)
-    go zero t false z false u waits = unfold unlessLent through in is-through (commit-ok w c t) z u
+    go zero t false z false u waits = unfold unlessLent in is-through (commit-ok w c t) z u
     go (suc n) t z y b u waits = unfold unlessLent in is-refused
 
 -- a call that follows the rule is one of the cases

@@ -157,26 +157,27 @@ begin m c =
 
 -- ---- a marked transaction's next read, write or commit answers set back and takes away the mark
 
-unfoldable pub told : World → ℕ → Result
-told w c =
-    let k : Core = coreAt (w .machine) c in
+-- a core whose transaction has this ticket, these setbacks, this mark and these sets; its job stays
+abbrev pub attempting : Core → ℕ → ℕ → Bool → ℕ → ℕ → Core
+attempting k ticket aborts zombie rs ws =
     record {
-      answer = SetBack;
-      world =
-          withMachine w
-          (putCore (w .machine) c
-          (record {
-            jobs = k .jobs;
-            count = k .count;
-            active = k .active;
-            owner = k .owner;
-            ticket = k .ticket;
-            aborts = k .aborts;
-            zombie = false;
-            reads = k .reads;
-            writes = k .writes;
-          }));
+      jobs = k .jobs;
+      count = k .count;
+      active = k .active;
+      owner = k .owner;
+      ticket = ticket;
+      aborts = aborts;
+      zombie = zombie;
+      reads = rs;
+      writes = ws;
     }
+
+-- the mark is taken away, and nothing more
+abbrev pub unmarked : Core → Core
+unmarked k = attempting k (k .ticket) (k .aborts) false (k .reads) (k .writes)
+
+unfoldable pub told : World → ℕ → Result
+told w c = record { answer = SetBack; world = withMachine w (putCore (w .machine) c (unmarked (coreAt (w .machine) c))) }
 
 -- the refusals of read and write
 unfoldable pub accessRefusal : World → ℕ → ℕ → ℕ
@@ -186,18 +187,7 @@ accessRefusal w c d =
     ∷ (not (inProgress (w .machine) c), 9) ∷ [])
 
 abbrev pub withSets : Core → ℕ → ℕ → Core
-withSets k rs ws =
-    record {
-      jobs = k .jobs;
-      count = k .count;
-      active = k .active;
-      owner = k .owner;
-      ticket = k .ticket;
-      aborts = k .aborts;
-      zombie = k .zombie;
-      reads = rs;
-      writes = ws;
-    }
+withSets k rs ws = attempting k (k .ticket) (k .aborts) (k .zombie) rs ws
 
 -- the word of the pending table for core c and card d
 abbrev pub slot : Machine → ℕ → ℕ → ℕ
@@ -253,18 +243,7 @@ blocked m c = some 16 (contender m c)
 
 -- set back: the sets are emptied, the setbacks rise by one, it is marked; it keeps its ticket
 abbrev pub aborted : Core → Core
-aborted k =
-    record {
-      jobs = k .jobs;
-      count = k .count;
-      active = k .active;
-      owner = k .owner;
-      ticket = k .ticket;
-      aborts = k .aborts + 1;
-      zombie = true;
-      reads = 0;
-      writes = 0;
-    }
+aborted k = attempting k (k .ticket) (k .aborts + 1) true 0 0
 
 -- a transaction whose data set meets the write set ws is set back
 unfoldable pub struck : ℕ → Core → Core

@@ -175,7 +175,7 @@ module _ {o : ℕ} {w : World} {h : List Deed} (a : Agree o w h) (c : ℕ) (ok :
       not-ahead b p m = go (ltb (coreAt (w .machine) b .ticket) (coreAt (w .machine) c .ticket)) refl
         where
           go : (q : Bool) → ltb (coreAt (w .machine) b .ticket) (coreAt (w .machine) c .ticket) ≡ q → q ≡ false
-          go true q = sym (one-some 16 (Rule.contender (w .machine) c) b (few b p) (rw (p, q, m) refl)) ∙ free
+          go true q = sym (one-some 16 (Rule.contender (w .machine) c) b (few b p) (ap₂ _&&_ (ap₂ _&&_ p q) (ap (λ (x : Bool). x || meeting (coreAt (w .machine) b .writes) (dataSet (coreAt (w .machine) c))) m))) ∙ free
           go false q = refl
 
       later : (b : ℕ) → strikes (commits c (coreAt (w .machine) c .aborts)) h b ≡ true → born h c < born h b

@@ -13,7 +13,7 @@ use Rattle.objset.proofs.Laws.{some-one, one-some, both-left, both-right, has-j
 use Rattle.machine.specs.declared.Core.{Core}
 use Rattle.machine.specs.declared.Job.{Job}
 use Rattle.machine.specs.Record.{noCore, dataSet, idle}
-use Rattle.machine.specs.Rule.{withList, withSets, aborted, over, struck}
+use Rattle.machine.specs.Rule.{withList, withSets, unmarked, aborted}
 use Rattle.machine.specs.Words.{Deed, begins, reads, writes, waits, commits, told, gives, other, touches, stores, any, touched, wrote, crosses, inProgress, attempt, strikes}
 use Rattle.machine.proofs.Run.View.{View, view, further, Over}
 
@@ -158,19 +158,7 @@ agrees-struck k v z a =
 
 -- told: the mark is taken away, one call more was answered set back
 pub agrees-told : (k : Core) (v : View) → k .zombie ≡ true → CoreAgrees k v
-    → CoreAgrees
-    (record {
-      jobs = k .jobs;
-      count = k .count;
-      active = k .active;
-      owner = k .owner;
-      ticket = k .ticket;
-      aborts = k .aborts;
-      zombie = false;
-      reads = k .reads;
-      writes = k .writes;
-    })
-    (record { going = v .going; order = v .order; tried = v .tried; hits = v .hits; heard = 1 + v .heard })
+    → CoreAgrees (unmarked k) (record { going = v .going; order = v .order; tried = v .tried; hits = v .hits; heard = 1 + v .heard })
 agrees-told k v z a =
     record {
       same-going = a .same-going;

@@ -52,7 +52,7 @@ one-untold {h = h} a c going z =
 
 pub step : {o : ℕ} {w w′ : World} {h : List Deed} {call : Call} {x : Answer} → Agree o w h → Case w call x w′
     → Allowed o (amounts call x) h × Agree o w′ (amounts call x ∷ h)
-unfolding amounts kind values Rule.released Rule.finished Rule.valued
+unfolding amounts kind values Rule.released Rule.finished Rule.valued Rule.through
 step a (is-refused {call = call} {n = n}) = rw (refused-other call (suc n)) (tt, agree-other a)
 step a (is-released {c = c} ok room) = (tt, step-list a c _ _ ok)
 step a (is-begun {c = c} ok job idle few) = ((inside a ok, sym (a .each-core c .same-going) ∙ idle), step-begins a c ok idle)

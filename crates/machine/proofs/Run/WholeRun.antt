@@ -79,7 +79,7 @@ by-the-rule {w₀} run =
 
 read-version : {o : ℕ} {w w′ : World} {h : List Deed} {call : Call} {a : Answer} → Agree o w h → Case w call a w′
     → (c d v n : ℕ) → call ≡ Read c d → a ≡ Value v n → n ≡ version h d
-unfolding Rule.valued
+unfolding Rule.valued Rule.through
 read-version g is-refused c d v n p q = let z : _≡_ {A = ℕ} 0 1 = cc in absurd (omega arith)
 read-version g (is-released ok room) c d v n p q = let z : _≡_ {A = ℕ} 0 1 = cc in absurd (omega arith)
 read-version g (is-begun ok job idle few) c d v n p q = let z : _≡_ {A = ℕ} 0 1 = cc in absurd (omega arith)
