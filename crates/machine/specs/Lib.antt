@@ -3,4 +3,5 @@ pub mod Sound
 pub mod Answers
 pub mod Rule
 pub mod Case
+pub mod Tally
 pub mod Examples
