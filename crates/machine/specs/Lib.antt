@@ -4,4 +4,5 @@ pub mod Answers
 pub mod Rule
 pub mod Case
 pub mod Tally
+pub mod Turns
 pub mod Examples
