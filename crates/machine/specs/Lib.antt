@@ -5,4 +5,5 @@ pub mod Rule
 pub mod Case
 pub mod Tally
 pub mod Turns
+pub mod Standing
 pub mod Examples

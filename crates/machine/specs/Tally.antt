@@ -93,5 +93,8 @@ pub tally-spared : (n j : ℕ) (f : ℕ → Bool) (c : ℕ) → c < n → c < j 
     → tally n f < j
 unfolding withOne
 tally-spared n j f c l s p h =
-    omega (arith, tally-with-one n f c l p,
-      tally-within n j (withOne f c) (λ i m r. rw (h i m r, ne-eqb i c (λ d. omega arith))))
+    omega (
+      arith,
+      tally-with-one n f c l p,
+      tally-within n j (withOne f c) (λ i m r. rw (h i m r, ne-eqb i c (λ d. omega arith))),
+    )

@@ -38,8 +38,12 @@ turns-same {cores} {tickets} {past} {a} {a′} {t} {t′} {b} {b′} sa st sb s 
       given = λ c l ac. omega (arith, st c l, s .given c l (sym (sa c l) ∙ ac));
       counted = s .counted ∙ ap (λ (n : ℕ). past + n) (tally-same 16 a a′ (λ i l. sym (sa i l)));
       bounded = λ c l ac.
-          omega (arith, sb c l, s .bounded c l (sym (sa c l) ∙ ac),
-            tally-same 16 (sooner a′ t′ (t′ c)) (sooner a t (t c)) (λ i m. ap₂ _&&_ (sa i m) (ap₂ ltb (st i m) (st c l))));
+          omega (
+            arith,
+            sb c l,
+            s .bounded c l (sym (sa c l) ∙ ac),
+            tally-same 16 (sooner a′ t′ (t′ c)) (sooner a t (t c)) (λ i m. ap₂ _&&_ (sa i m) (ap₂ ltb (st i m) (st c l))),
+          );
     }
 
 -- what holds of core c, and of core e where that is another, holds of core e
@@ -99,14 +103,20 @@ module _ (cores tickets past : ℕ) (a a′ : ℕ → Bool) (t t′ b b′ : ℕ
         bounded = λ e l ae.
             here-or-else (λ x. x < 16 → a′ x ≡ true → b′ x + tally 16 (sooner a′ t′ (t′ x)) < cores) c e
             (λ m p.
-            omega (arith,
+            omega (
+              arith,
               tally-spared 16 cores (sooner a′ t′ (t′ c)) c here within (and-no (a′ c) (ltb (t′ c) (t′ c)) (le-ltb (t′ c) (t′ c) (omega arith)))
-                  (λ i n r. and-false (a′ i) (ltb (t′ i) (t′ c)) (lacked′ i n r))))
+                  (λ i n r. and-false (a′ i) (ltb (t′ i) (t′ c)) (lacked′ i n r)),
+            ))
             (λ o m p.
-            omega (arith, sb e m o, s .bounded e m (sym (sa e m o) ∙ p),
+            omega (
+              arith,
+              sb e m o,
+              s .bounded e m (sym (sa e m o) ∙ p),
               tally-more 16 (sooner a′ t′ (t′ e)) (sooner a t (t e))
                   (was-sooner e m o
-                  (λ q. omega (arith, others-given e m o p, ltb-true (t′ c) (t′ e) (both-right (a′ c) (ltb (t′ c) (t′ e)) q))))))
+                  (λ q. omega (arith, others-given e m o p, ltb-true (t′ c) (t′ e) (both-right (a′ c) (ltb (t′ c) (t′ e)) q)))),
+            ))
             l ae;
       }
     where
@@ -130,10 +140,18 @@ module _ (cores tickets past : ℕ) (a a′ : ℕ → Bool) (t t′ b b′ : ℕ
 
       sum : (e : ℕ) → e < 16 → a′ e ≡ true → (e ≡ c → ⊥) → (q : Bool) → ltb (t c) (t e) ≡ q → b′ e + tally 16 (sooner a′ t′ (t′ e)) < cores
       sum e l ae o true p =
-          omega (arith, rw p at (sb e l o), s .bounded e l (sym (sa e l o) ∙ ae),
+          omega (
+            arith,
+            rw p at (sb e l o),
+            s .bounded e l (sym (sa e l o) ∙ ae),
             tally-less 16 (sooner a′ t′ (t′ e)) (sooner a t (t e)) c here (and-false (a′ c) (ltb (t′ c) (t′ e)) gone) (ap₂ _&&_ was p)
-                (was-sooner e l o (λ q. true≢false (sym (both-left (a′ c) (ltb (t′ c) (t′ e)) q) ∙ gone))))
+                (was-sooner e l o (λ q. true≢false (sym (both-left (a′ c) (ltb (t′ c) (t′ e)) q) ∙ gone))),
+          )
       sum e l ae o false p =
-          omega (arith, rw p at (sb e l o), s .bounded e l (sym (sa e l o) ∙ ae),
+          omega (
+            arith,
+            rw p at (sb e l o),
+            s .bounded e l (sym (sa e l o) ∙ ae),
             tally-more 16 (sooner a′ t′ (t′ e)) (sooner a t (t e))
-                (was-sooner e l o (λ q. true≢false (sym (both-left (a′ c) (ltb (t′ c) (t′ e)) q) ∙ gone))))
+                (was-sooner e l o (λ q. true≢false (sym (both-left (a′ c) (ltb (t′ c) (t′ e)) q) ∙ gone))),
+          )
