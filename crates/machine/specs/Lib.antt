@@ -6,4 +6,5 @@ pub mod Case
 pub mod Tally
 pub mod Turns
 pub mod Standing
+pub mod Jobs
 pub mod Examples
