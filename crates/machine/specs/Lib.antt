@@ -7,4 +7,5 @@ pub mod Tally
 pub mod Turns
 pub mod Standing
 pub mod Jobs
+pub mod Cores
 pub mod Examples
