@@ -8,4 +8,5 @@ pub mod Turns
 pub mod Standing
 pub mod Jobs
 pub mod Cores
+pub mod Entries
 pub mod Examples
