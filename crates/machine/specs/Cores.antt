@@ -10,7 +10,7 @@ use lib.Seq.{getD-set-other}
 use borrow.Author.Tests.{eqb-true}
 use Rattle.objset.specs.Objset.{has, added, meeting}
 use Rattle.objset.specs.Digits.{has-zero}
-use Rattle.objset.specs.Laws.{has-added, added-fits}
+use Rattle.objset.specs.Laws.{both-left, both-right, has-added}
 use Rattle.machine.specs.declared.Core.{Core}
 use Rattle.machine.specs.declared.Job.{Job}
 use Rattle.machine.specs.Record.{noJob, jobAt, idle, dataSet, least, running}
@@ -182,3 +182,55 @@ added-within objects s d fits few card inside e l p = go (has s e) refl (eqb e d
     go true h b t q = inside e l h
     go false h true t q = omega (arith, eqb-true e d t)
     go false h false t q = absurd (true≢false (sym (rw (h, t) at q)))
+
+-- ---- a core at another's commit
+
+pub struck-active : (ws : ℕ) (k : Core) → struck ws k .active ≡ k .active
+unfolding struck
+struck-active ws k = go (k .active && meeting ws (dataSet k))
+  where
+    go : (b : Bool) → cond b (aborted k) k .active ≡ k .active
+    go true = refl
+    go false = refl
+
+pub struck-ticket : (ws : ℕ) (k : Core) → struck ws k .ticket ≡ k .ticket
+unfolding struck
+struck-ticket ws k = go (k .active && meeting ws (dataSet k))
+  where
+    go : (b : Bool) → cond b (aborted k) k .ticket ≡ k .ticket
+    go true = refl
+    go false = refl
+
+pub struck-count : (ws : ℕ) (k : Core) → struck ws k .count ≡ k .count
+unfolding struck
+struck-count ws k = go (k .active && meeting ws (dataSet k))
+  where
+    go : (b : Bool) → cond b (aborted k) k .count ≡ k .count
+    go true = refl
+    go false = refl
+
+-- the setbacks rise by at most one, and only where those whom the commit strikes have a later ticket
+pub struck-aborts : (ws : ℕ) (k : Core) (later : Bool) → (k .active ≡ true → meeting ws (dataSet k) ≡ true → later ≡ true)
+    → struck ws k .aborts ≤ k .aborts + cond later 1 0
+unfolding struck
+struck-aborts ws k later h = go (k .active && meeting ws (dataSet k)) refl
+  where
+    go : (b : Bool) → (k .active && meeting ws (dataSet k)) ≡ b → cond b (aborted k) k .aborts ≤ k .aborts + cond later 1 0
+    go true e = rw (h (both-left (k .active) (meeting ws (dataSet k)) e) (both-right (k .active) (meeting ws (dataSet k)) e)) (omega arith)
+    go false e = omega arith
+
+pub struck-tidy : (objects ws : ℕ) (k : Core) → Tidy objects k → Formed-core k → Tidy objects (struck ws k)
+unfolding struck
+struck-tidy objects ws k s f = go (k .active && meeting ws (dataSet k)) refl
+  where
+    go : (b : Bool) → (k .active && meeting ws (dataSet k)) ≡ b → Tidy objects (cond b (aborted k) k)
+    go true e = aborted-tidy objects k s f (both-left (k .active) (meeting ws (dataSet k)) e)
+    go false e = s
+
+pub struck-formed : (ws : ℕ) (k : Core) → Formed-core k → Formed-core (struck ws k)
+unfolding struck
+struck-formed ws k f = go (k .active && meeting ws (dataSet k))
+  where
+    go : (b : Bool) → Formed-core (cond b (aborted k) k)
+    go true = record { jobs-long = f .jobs-long; reads-fit = omega arith; writes-fit = omega arith }
+    go false = f

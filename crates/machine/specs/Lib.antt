@@ -9,4 +9,7 @@ pub mod Standing
 pub mod Jobs
 pub mod Cores
 pub mod Entries
+pub mod OneCore
+pub mod Commit
+pub mod Keeps
 pub mod Examples
