@@ -1,28 +1,113 @@
 -- Every call on a good world leaves a good world: a sound record of the right shape, and tables of the right lengths. The world
 -- of an accepted setup is good. Assumes nothing.
 use mathlib.Core.Path.{_≡_, refl, sym, ap, subst, _∙_}
-use mathlib.Core.Bool.{Bool, true, false, cond, not, _&&_, _||_, true≢false}
+use mathlib.Core.Bool.{Bool, true, false, cond, not, _&&_, true≢false}
 use mathlib.Core.List.{List, [], _∷_}
-use Prim.Native.Nat.{ℕ, zero, suc, _+_, _*_, _-_, _^_, _≤_, _<_}
+use Prim.Native.Nat.{ℕ, zero, suc, _+_, _*_, _-_, _≤_, _<_}
 use native.Mathlib.Omega.{arith}
 use lib.Dec.{eqb, leb, ltb}
 use lib.ListN.{getD, set, length, replicate, length-set, length-replicate, getD-replicate}
-use lib.Seq.{getD-set-same, getD-set-other}
-use borrow.Author.Tests.{ltb-false, lt-ltb, eqb-true, eqb-false}
-use Rattle.objset.specs.Objset.{added, meeting}
-use Rattle.objset.specs.Laws.{one-some, added-fits}
+use Rattle.objset.specs.Objset.{added}
+use Rattle.objset.specs.Laws.{added-fits}
 use Rattle.machine.specs.declared.Machine.{Machine}
 use Rattle.machine.specs.declared.Core.{Core}
 use Rattle.machine.specs.declared.Job.{Job}
 use Rattle.machine.specs.declared.Answer.{Answer}
 use Rattle.machine.specs.declared.Answer.the-variants.{Ready}
-use Rattle.machine.specs.Record.{noCore, coreAt, blankCore, machineOf, putCore, dataSet, idle, running}
+use Rattle.machine.specs.Record.{noJob, noCore, coreAt, idle, blankCore, machineOf, running}
 use Rattle.machine.specs.Sound.{sound}
-use Rattle.machine.specs.Rule.{World, released, begun, told, valued, written, contender, blocked, conflict, struck, over, cleared, changed, through, ended, finished, setup, Call}
-use Rattle.machine.specs.Case.{Case, Core-ok, Lent-ok}
-use Rattle.machine.specs.Turns.{Turns, turns-same, turns-joined, turns-left}
+use Rattle.machine.specs.Rule.{World, slot, withJob, withSets, without, released, begun, told, valued, written, through, ended, finished, setup, Call}
+use Rattle.machine.specs.Case.{Case, is-refused, is-released, is-begun, is-told, is-valued, is-written, is-waiting, is-through, is-ended, is-finished, Core-ok, Lent-ok}
 use Rattle.machine.specs.Standing.{Tidy, Standing, Formed-core, Formed, standing, is-sound}
 use Rattle.machine.specs.Jobs.{least-listed}
-use Rattle.machine.specs.Cores.{withTransaction, unmarked, idle-tidy, idle-formed, released-tidy, released-formed, begun-tidy, begun-formed, told-tidy, told-formed, sets-tidy, sets-formed, over-tidy, finished-tidy, finished-formed, added-within, struck-active, struck-ticket, struck-count, struck-aborts, struck-tidy, struck-formed}
-use Rattle.machine.specs.Entries.{put-each, cleared-at, cleared-long, changed-at, changed-long}
+use Rattle.machine.specs.Cores.{unmarked, idle-tidy, idle-formed, released-tidy, released-formed, told-tidy, told-formed, sets-tidy, sets-formed, finished-tidy, finished-formed, added-within}
+use Rattle.machine.specs.Entries.{changed-long}
+use Rattle.machine.specs.OneCore.{Whole, inside, put-whole, begun-whole, ended-whole}
+use Rattle.machine.specs.Commit.{through-whole}
 
+pub record Good (w : World) : Type 0 where
+  pub formed : Formed (w .machine)
+  pub is-sound : sound (w .machine) ≡ true
+  pub committed-long : length (w .committed) ≡ w .machine .objects
+  pub pending-long : length (w .pending) ≡ w .machine .cores * w .machine .objects
+
+pub whole : {w : World} → Good w → Whole (w .machine)
+whole g = record { formed = g .formed; rules = standing (g .is-sound) }
+
+good : {w : World} → Whole (w .machine) → length (w .committed) ≡ w .machine .objects
+    → length (w .pending) ≡ w .machine .cores * w .machine .objects → Good w
+good g c p = record { formed = g .formed; is-sound = Rattle.machine.specs.Standing.is-sound (g .rules); committed-long = c; pending-long = p }
+
+-- ---- the new record of each call that changes core c
+
+module _ (w : World) (c : ℕ) (g : Whole (w .machine)) (here : c < w .machine .cores) where
+  abbrev m : Machine
+  m = w .machine
+
+  abbrev k : Core
+  k = coreAt m c
+
+  tidy : Tidy (m .objects) k
+  tidy = g .rules .tidy c (inside m c here g)
+
+  formed : Formed-core k
+  formed = g .formed .formed-core c (inside m c here g)
+
+  released-whole : (j : Job) → k .count < 8 → Whole (released m c j .machine)
+  unfolding released
+  released-whole j room =
+      put-whole m c here g (withJob k j) (released-formed (m .objects) k tidy formed j) (released-tidy (m .objects) k tidy formed j room) refl refl refl
+
+  told-whole : k .active ≡ true → Whole (told w c .world .machine)
+  unfolding told
+  told-whole on = put-whole m c here g (unmarked k) (told-formed (m .objects) k tidy formed) (told-tidy (m .objects) k tidy formed on) refl refl refl
+
+  valued-whole : (d : ℕ) → d < m .objects → k .active ≡ true → k .zombie ≡ false → Whole (valued w c d .world .machine)
+  unfolding valued
+  valued-whole d card on free =
+      put-whole m c here g (withSets k (added (k .reads) d) (k .writes))
+      (sets-formed (m .objects) k tidy formed (added (k .reads) d) (k .writes) (added-fits (k .reads) d) (formed .writes-fit))
+      (sets-tidy (m .objects) k tidy formed (added (k .reads) d) (k .writes) on free
+      (added-within (m .objects) (k .reads) d (formed .reads-fit) (g .rules .few-objects) card (tidy .reads-within)) (tidy .writes-within)) refl refl refl
+
+  written-whole : (d v : ℕ) → d < m .objects → k .active ≡ true → k .zombie ≡ false → Whole (written w c d v .world .machine)
+  unfolding written
+  written-whole d v card on free =
+      put-whole m c here g (withSets k (k .reads) (added (k .writes) d))
+      (sets-formed (m .objects) k tidy formed (k .reads) (added (k .writes) d) (formed .reads-fit) (added-fits (k .writes) d))
+      (sets-tidy (m .objects) k tidy formed (k .reads) (added (k .writes) d) on free (tidy .reads-within)
+      (added-within (m .objects) (k .writes) d (formed .writes-fit) (g .rules .few-objects) card (tidy .writes-within))) refl refl refl
+
+  finished-whole : (k .count ≡ 0 → ⊥) → k .active ≡ false → Whole (finished m c .machine)
+  unfolding finished
+  finished-whole some off =
+      let clear = tidy .idle-clear off in
+      put-whole m c here g (idle (without (k .jobs) (running k)) (k .count - 1)) (finished-formed (m .objects) k tidy formed (running k) listed)
+      (finished-tidy (m .objects) k tidy formed (running k) listed) (sym off) (sym (clear .no-ticket)) (sym (clear .no-aborts))
+    where
+      listed : running k < k .count
+      listed = unfold running in rw off (least-listed (k .jobs) (k .count) (omega (arith, some)))
+
+pub keeps-good : {w w′ : World} {call : Call} {a : Answer} → Case w call a w′ → Good w → Good w′
+keeps-good {w} is-refused g = g
+keeps-good {w} (is-released {c} {number} {deadline} ok room) g =
+    unfold released in good (released-whole w c (whole g) (ok .is-core) (record { number = number; deadline = deadline }) room) (g .committed-long) (g .pending-long)
+keeps-good {w} (is-begun {c} ok some off spare) g =
+    unfold begun in good (begun-whole (w .machine) c (ok .is-core) (whole g) some off spare) (g .committed-long) (g .pending-long)
+keeps-good {w} (is-told {call} {c} asks ok mark) g =
+    unfold told in good (told-whole w c (whole g) (ok .core-ok .is-core) (ok .active)) (g .committed-long) (g .pending-long)
+keeps-good {w} (is-valued {c} {d} ok card free) g =
+    unfold valued in good (valued-whole w c (whole g) (ok .core-ok .is-core) d card (ok .active) free) (g .committed-long) (g .pending-long)
+keeps-good {w} (is-written {c} {d} {v} ok card free) g =
+    unfold written in
+    good (written-whole w c (whole g) (ok .core-ok .is-core) d v card (ok .active) free) (g .committed-long)
+    (length-set (w .pending) (slot (w .machine) c d) v ∙ g .pending-long)
+keeps-good {w} (is-waiting ok free rival) g = g
+keeps-good {w} (is-through {c} ok free clear) g =
+    unfold through in
+    good (through-whole (w .machine) c (ok .core-ok .is-core) (whole g) clear (ok .active) (w .committed) (w .pending))
+    (changed-long (coreAt (w .machine) c .writes) (λ d v. getD (w .pending) (slot (w .machine) c d) 0) 0 (w .committed) ∙ g .committed-long) (g .pending-long)
+keeps-good {w} (is-ended {c} ok on) g =
+    unfold ended in good (ended-whole (w .machine) c (ok .is-core) (whole g) on) (g .committed-long) (g .pending-long)
+keeps-good {w} (is-finished {c} ok some off) g =
+    unfold finished in good (finished-whole w c (whole g) (ok .is-core) some off) (g .committed-long) (g .pending-long)
