@@ -7,6 +7,7 @@ use Prim.Native.Nat.{ℕ, zero, suc, _+_, _*_, _-_, _≤_, _<_}
 use native.Mathlib.Omega.{arith}
 use lib.Dec.{eqb, leb, ltb}
 use lib.ListN.{getD, set, length, replicate, length-set, length-replicate, getD-replicate}
+use borrow.Author.Tests.{ltb-true, leb-true}
 use Rattle.objset.specs.Objset.{added}
 use Rattle.objset.specs.Laws.{added-fits}
 use Rattle.machine.specs.declared.Machine.{Machine}
@@ -14,10 +15,12 @@ use Rattle.machine.specs.declared.Core.{Core}
 use Rattle.machine.specs.declared.Job.{Job}
 use Rattle.machine.specs.declared.Answer.{Answer}
 use Rattle.machine.specs.declared.Answer.the-variants.{Ready}
-use Rattle.machine.specs.Record.{noJob, noCore, coreAt, idle, blankCore, machineOf, running}
+use Rattle.machine.specs.Record.{noJob, noCore, coreAt, idle, blankCore, blank, machineOf, running}
 use Rattle.machine.specs.Sound.{sound}
-use Rattle.machine.specs.Rule.{World, slot, withJob, withSets, without, released, begun, told, valued, written, through, ended, finished, setup, Call}
+use Rattle.machine.specs.Answers.{kind}
+use Rattle.machine.specs.Rule.{World, slot, withJob, withSets, without, released, begun, told, valued, written, through, ended, finished, setup, Call, Result, first, unlessLent, misfit}
 use Rattle.machine.specs.Case.{Case, is-refused, is-released, is-begun, is-told, is-valued, is-written, is-waiting, is-through, is-ended, is-finished, Core-ok, Lent-ok}
+use Rattle.machine.specs.Tally.{tally-within}
 use Rattle.machine.specs.Standing.{Tidy, Standing, Formed-core, Formed, standing, is-sound}
 use Rattle.machine.specs.Jobs.{least-listed}
 use Rattle.machine.specs.Cores.{unmarked, idle-tidy, idle-formed, released-tidy, released-formed, told-tidy, told-formed, sets-tidy, sets-formed, finished-tidy, finished-formed, added-within}
@@ -111,3 +114,80 @@ keeps-good {w} (is-ended {c} ok on) g =
     unfold ended in good (ended-whole (w .machine) c (ok .is-core) (whole g) on) (g .committed-long) (g .pending-long)
 keeps-good {w} (is-finished {c} ok some off) g =
     unfold finished in good (finished-whole w c (whole g) (ok .is-core) some off) (g .committed-long) (g .pending-long)
+
+-- ---- setup
+
+module _ (cores objects : ℕ) where
+  -- every core of the new machine is blank
+  new-each : (P : Core → Type 0) → P blankCore → (c : ℕ) → c < 16 → P (coreAt (machineOf cores objects) c)
+  new-each P blank c l = subst P (sym (getD-replicate 16 c blankCore noCore l)) blank
+
+  new-version : (d : ℕ) → d < 64 → getD (machineOf cores objects .versions) d 0 ≡ 0
+  new-version d l = getD-replicate 64 d 0 0 l
+
+  idle-new : (c : ℕ) → c < 16 → coreAt (machineOf cores objects) c .active ≡ false
+  idle-new = new-each (λ x. x .active ≡ false) refl
+
+  new-whole : 0 < cores → cores ≤ 16 → 0 < objects → objects ≤ 64 → Whole (machineOf cores objects)
+  new-whole sc fc so fo =
+      record {
+        formed = record {
+          core-long = length-replicate 16 blankCore;
+          versions-long = length-replicate {A = ℕ} 64 0;
+          tickets-fit = omega arith;
+          formed-core = new-each Formed-core (idle-formed (replicate 8 noJob) 0 (length-replicate 8 noJob));
+        };
+        rules = record {
+          some-cores = sc;
+          few-cores = fc;
+          some-objects = so;
+          few-objects = fo;
+          tidy = new-each (Tidy objects) (idle-tidy objects (replicate 8 noJob) 0 (omega arith) (λ p l u. getD-replicate 8 p noJob noJob l));
+          lacked-jobs = λ c l h. new-each (λ x. x .count ≡ 0) refl c l;
+          lacked-objects = λ d l h. new-version d l;
+          turns = record {
+            lacked = λ c l h. idle-new c l;
+            differ = λ c e lc le d a b p. true≢false (sym a ∙ idle-new c lc);
+            given = λ c l a. absurd (true≢false (sym a ∙ idle-new c l));
+            counted = omega (arith, tally-within 16 0 (λ c. coreAt (machineOf cores objects) c .active) (λ c l h. idle-new c l));
+            bounded = λ c l a. absurd (true≢false (sym a ∙ idle-new c l));
+          };
+          versions-bounded = λ d l. omega (arith, new-version d l);
+        };
+      }
+
+-- what the tests of setup leave
+pub in-range : (a b c d : Bool) → not (a && b && c && d) ≡ false → (a ≡ true) × (b ≡ true) × (c ≡ true) × (d ≡ true)
+in-range true true true true e = (refl, refl, refl, refl)
+in-range true true true false e = absurd (true≢false e)
+in-range true true false d e = absurd (true≢false e)
+in-range true false c d e = absurd (true≢false e)
+in-range false b c d e = absurd (true≢false e)
+
+pub setup-good : (cores objects : ℕ) (committed pending : List ℕ) → setup cores objects committed pending .answer ≡ Ready
+    → Good (setup cores objects committed pending .world)
+unfolding setup
+setup-good cores objects committed pending =
+    go (not (ltb 0 cores && leb cores 16 && ltb 0 objects && leb objects 64)) refl (misfit cores objects committed pending)
+  where
+    blanked : World
+    blanked = record { machine = blank; committed = committed; pending = pending }
+
+    ready : Result
+    ready =
+        record {
+          answer = Ready;
+          world = record { machine = machineOf cores objects; committed = replicate objects 0; pending = replicate (cores * objects) 0 };
+        }
+
+    go : (a : Bool) → not (ltb 0 cores && leb cores 16 && ltb 0 objects && leb objects 64) ≡ a → (b : Bool)
+        → unlessLent (first ((a, 1) ∷ (b, 3) ∷ [])) blanked ready .answer ≡ Ready
+        → Good (unlessLent (first ((a, 1) ∷ (b, 3) ∷ [])) blanked ready .world)
+    go true e b = unfold first unlessLent kind in λ p. absurd (omega (arith, ap kind p))
+    go false e true = unfold first unlessLent kind in λ p. absurd (omega (arith, ap kind p))
+    go false e false =
+        let r = in-range (ltb 0 cores) (leb cores 16) (ltb 0 objects) (leb objects 64) e in
+        unfold first unlessLent in
+        λ p.
+        good (new-whole cores objects (ltb-true 0 cores (r .0)) (leb-true cores 16 (r .1)) (ltb-true 0 objects (r .2)) (leb-true objects 64 (r .3)))
+        (length-replicate {A = ℕ} objects 0) (length-replicate {A = ℕ} (cores * objects) 0)

@@ -151,4 +151,3 @@ module _ (m : Machine) (c : ℕ) (here : c < m .cores) (w : Whole m) where
           versions-bounded = s .versions-bounded;
         };
       }
-
