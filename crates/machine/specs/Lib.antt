@@ -12,4 +12,5 @@ pub mod Entries
 pub mod OneCore
 pub mod Commit
 pub mod Keeps
+pub mod Single
 pub mod Examples
