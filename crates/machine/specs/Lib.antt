@@ -13,4 +13,5 @@ pub mod OneCore
 pub mod Commit
 pub mod Keeps
 pub mod Single
+pub mod StandingTable
 pub mod Examples
