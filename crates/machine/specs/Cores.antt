@@ -1,8 +1,8 @@
 -- What each call makes of a core keeps the rules that a core keeps by itself, and its shape. Assumes nothing.
-use mathlib.Core.Path.{_≡_, refl, sym, ap, subst, _∙_}
+use mathlib.Core.Path.{_≡_, refl, sym, ap, _∙_}
 use mathlib.Core.Bool.{Bool, true, false, cond, _&&_, _||_, true≢false}
-use mathlib.Core.List.{List, [], _∷_}
-use Prim.Native.Nat.{ℕ, zero, suc, _+_, _-_, _^_, _≤_, _<_}
+use mathlib.Core.List.{List}
+use Prim.Native.Nat.{ℕ, _+_, _-_, _^_, _≤_, _<_}
 use native.Mathlib.Omega.{arith}
 use lib.Dec.{eqb}
 use lib.ListN.{getD, set, length, length-set}
@@ -13,9 +13,9 @@ use Rattle.objset.specs.Digits.{has-zero}
 use Rattle.objset.specs.Laws.{both-left, both-right, has-added}
 use Rattle.machine.specs.declared.Core.{Core}
 use Rattle.machine.specs.declared.Job.{Job}
-use Rattle.machine.specs.Record.{noJob, jobAt, idle, dataSet, least, running}
+use Rattle.machine.specs.Record.{noJob, jobAt, idle, dataSet, running}
 use Rattle.machine.specs.Rule.{withJob, withSets, aborted, struck, over, without}
-use Rattle.machine.specs.Standing.{Clear, Tidy, Formed-core}
+use Rattle.machine.specs.Standing.{Tidy, Formed-core}
 use Rattle.machine.specs.Jobs.{least-listed, least-first, without-long, without-unused}
 
 -- the core of a begun transaction with ticket t

@@ -1,9 +1,9 @@
 -- The starred examples of document 01, one table: a setup, the calls after it with their answers, and the cards at the end.
 -- One computed test proves the whole table. Assumes nothing.
 use mathlib.Core.Path.{_≡_, refl}
-use mathlib.Core.Bool.{Bool, true, false, _&&_}
+use mathlib.Core.Bool.{Bool, true, _&&_}
 use mathlib.Core.List.{List, [], _∷_, _++_}
-use Prim.Native.Nat.{ℕ, zero, suc, _*_}
+use Prim.Native.Nat.{ℕ, _*_}
 use lib.ListN.{replicate}
 use Rattle.objset.specs.Objset.{has, collect, some, each, none, added, joined, meeting, below}
 use Rattle.machine.specs.declared.Answer.{Answer}

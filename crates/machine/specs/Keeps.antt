@@ -1,12 +1,12 @@
 -- Every call on a good world leaves a good world: a sound record of the right shape, and tables of the right lengths. The world
 -- of an accepted setup is good. Assumes nothing.
 use mathlib.Core.Path.{_≡_, refl, sym, ap, subst, _∙_}
-use mathlib.Core.Bool.{Bool, true, false, cond, not, _&&_, true≢false}
+use mathlib.Core.Bool.{Bool, true, false, not, _&&_, true≢false}
 use mathlib.Core.List.{List, [], _∷_}
-use Prim.Native.Nat.{ℕ, zero, suc, _+_, _*_, _-_, _≤_, _<_}
+use Prim.Native.Nat.{ℕ, _*_, _-_, _≤_, _<_}
 use native.Mathlib.Omega.{arith}
-use lib.Dec.{eqb, leb, ltb}
-use lib.ListN.{getD, set, length, replicate, length-set, length-replicate, getD-replicate}
+use lib.Dec.{leb, ltb}
+use lib.ListN.{getD, length, replicate, length-set, length-replicate, getD-replicate}
 use borrow.Author.Tests.{ltb-true, leb-true}
 use Rattle.objset.specs.Objset.{added}
 use Rattle.objset.specs.Laws.{added-fits}
@@ -19,7 +19,7 @@ use Rattle.machine.specs.Record.{noJob, noCore, coreAt, idle, blankCore,
 use Rattle.machine.specs.Sound.{sound}
 use Rattle.machine.specs.Answers.{kind}
 use Rattle.machine.specs.Rule.{World, slot, withJob, withSets, without, released, begun, told, valued, written, through, ended, finished, setup, Call, Result, first, unlessLent, misfit}
-use Rattle.machine.specs.Case.{Case, is-refused, is-released, is-begun, is-told, is-valued, is-written, is-waiting, is-through, is-ended, is-finished, Core-ok, Lent-ok}
+use Rattle.machine.specs.Case.{Case, is-refused, is-released, is-begun, is-told, is-valued, is-written, is-waiting, is-through, is-ended, is-finished}
 use Rattle.machine.specs.Tally.{tally-within}
 use Rattle.machine.specs.Standing.{Tidy, Standing, Formed-core, Formed, standing, is-sound}
 use Rattle.machine.specs.Jobs.{least-listed}

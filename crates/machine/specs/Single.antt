@@ -3,20 +3,19 @@
 use mathlib.Core.Path.{_≡_, refl, sym, ap, ap₂, _∙_}
 use mathlib.Core.Bool.{Bool, true, false, cond, not, _&&_, true≢false}
 use mathlib.Core.List.{List, [], _∷_}
-use Prim.Native.Nat.{ℕ, zero, suc, _+_, _*_, _^_, _≤_, _<_}
+use Prim.Native.Nat.{ℕ, zero, suc, _*_, _^_, _≤_, _<_}
 use native.Mathlib.Omega.{arith}
 use lib.Dec.{eqb}
-use lib.ListN.{getD, length, replicate}
+use lib.ListN.{getD, length}
 use borrow.Author.Tests.{eq-eqb}
 use Rattle.machine.specs.declared.Machine.{Machine}
-use Rattle.machine.specs.declared.Core.{Core}
 use Rattle.machine.specs.declared.Answer.{Answer}
 use Rattle.machine.specs.declared.Answer.the-variants.{Ready, Running, Queued, Refused}
 use Rattle.machine.specs.declared.Outcome.{Outcome}
-use Rattle.machine.specs.Record.{coreAt, blank, machineOf, running}
+use Rattle.machine.specs.Record.{coreAt, blank, running}
 use Rattle.machine.specs.Sound.{sound}
 use Rattle.machine.specs.Answers.{kind}
-use Rattle.machine.specs.Rule.{World, Result, withMachine, first, unless, unlessLent, unsound, misfit, wrongTables, noSuchCore, noSuchObject, fullList, jobless, inProgress, ticketsSpent, setup, withJob, released, release, begun, begin, told, accessRefusal, valued, read, written, write, blocked, through, waiting, commit, ended, giveUp, finished, finish, rule, Call, Release, Begin, Read, Write, Commit, GiveUp, Finish}
+use Rattle.machine.specs.Rule.{World, Result, withMachine, first, unless, unlessLent, unsound, wrongTables, noSuchCore, noSuchObject, fullList, jobless, inProgress, ticketsSpent, setup, withJob, released, release, begun, begin, told, accessRefusal, valued, read, written, write, blocked, through, waiting, commit, ended, giveUp, finished, finish, rule, Call, Release, Begin, Read, Write, Commit, GiveUp, Finish}
 use Rattle.machine.specs.Case.{Case}
 use Rattle.machine.specs.Standing.{Standing, standing}
 use Rattle.machine.specs.Keeps.{Good, keeps-good}

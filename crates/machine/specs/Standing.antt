@@ -1,18 +1,18 @@
 -- The standing rules as plain statements: `Standing m` holds if and only if the test `sound m` passes.
 -- `Formed m` is what the types of the record's fields give besides. Assumes nothing.
-use mathlib.Core.Path.{_≡_, refl, sym, ap, ap₂, subst, _∙_}
-use mathlib.Core.Bool.{Bool, true, false, not, _&&_, _||_, true≢false}
-use Prim.Native.Nat.{ℕ, zero, suc, _+_, _^_, _≤_, _<_}
+use mathlib.Core.Path.{_≡_, refl, sym, ap, ap₂}
+use mathlib.Core.Bool.{Bool, true, false, not, _&&_, true≢false}
+use Prim.Native.Nat.{ℕ, _+_, _^_, _≤_, _<_}
 use native.Mathlib.Omega.{arith}
 use lib.Dec.{eqb, leb, ltb}
 use lib.ListN.{getD, length}
 use borrow.Author.Tests.{ltb-true, ltb-false, leb-true, eqb-true, eqb-false, lt-ltb, le-leb, eq-eqb, ne-eqb, not-true}
-use Rattle.objset.specs.Objset.{has, each, below}
+use Rattle.objset.specs.Objset.{has, below}
 use Rattle.objset.specs.Laws.{both-left, both-right, each-one, one-each}
 use Rattle.machine.specs.declared.Machine.{Machine}
 use Rattle.machine.specs.declared.Core.{Core}
 use Rattle.machine.specs.declared.Job.{Job}
-use Rattle.machine.specs.Record.{noJob, coreAt, jobAt, tally}
+use Rattle.machine.specs.Record.{noJob, coreAt, jobAt}
 use Rattle.machine.specs.Sound.{_⇒_, inRange, setsWithin, ownerListed, emptySets, idleClear, zombieEmpty, atMostEight, zeroJob, unusedJobs, lackedCores, lackedObjects, ownerFirst, ticketsDiffer, ticketsGiven, ticketsCounted, versionsBounded, ahead, abortsBounded, sound}
 use Rattle.machine.specs.Turns.{Turns}
 
