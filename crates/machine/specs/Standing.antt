@@ -94,7 +94,7 @@ empty-sets k e =
     (eqb-true (k .reads) 0 (p .0), eqb-true (k .writes) 0 (p .1))
 
 are-empty : (k : Core) → k .reads ≡ 0 → k .writes ≡ 0 → emptySets k ≡ true
-are-empty k p q = ap₂ _&&_ (eq-eqb (k .reads) 0 p) (eq-eqb (k .writes) 0 q)
+are-empty k p q = rw (p, q)
 
 is-clear : (k : Core) → (emptySets k && not (k .zombie) && eqb (k .owner) 0 && eqb (k .ticket) 0 && eqb (k .aborts) 0) ≡ true → Clear k
 is-clear k e =
@@ -112,10 +112,7 @@ is-clear k e =
     }
 
 clear-is : (k : Core) → Clear k → (emptySets k && not (k .zombie) && eqb (k .owner) 0 && eqb (k .ticket) 0 && eqb (k .aborts) 0) ≡ true
-clear-is k s =
-    let a : emptySets k ≡ true = are-empty k (s .no-reads) (s .no-writes) in
-    ap₂ _&&_ (ap₂ _&&_ (ap₂ _&&_ (ap₂ _&&_ a (ap not (s .no-mark))) (eq-eqb (k .owner) 0 (s .no-owner))) (eq-eqb (k .ticket) 0 (s .no-ticket)))
-    (eq-eqb (k .aborts) 0 (s .no-aborts))
+clear-is k s = rw (s .no-reads, s .no-writes, s .no-mark, s .no-owner, s .no-ticket, s .no-aborts)
 
 -- ---- every test passes
 
@@ -174,7 +171,23 @@ passed m s =
 passed-all : (m : Machine) → Passed m → sound m ≡ true
 unfolding sound
 passed-all m p =
-    ap₂ _&&_ (ap₂ _&&_ (ap₂ _&&_ (ap₂ _&&_ (ap₂ _&&_ (ap₂ _&&_ (ap₂ _&&_ (ap₂ _&&_ (ap₂ _&&_ (ap₂ _&&_ (ap₂ _&&_ (ap₂ _&&_ (ap₂ _&&_ (ap₂ _&&_ (p .passed-in-range) (p .passed-sets-within)) (p .passed-owner-listed)) (p .passed-idle-clear)) (p .passed-zombie-empty)) (p .passed-at-most-eight)) (p .passed-unused-jobs)) (p .passed-lacked-cores)) (p .passed-lacked-objects)) (p .passed-owner-first)) (p .passed-tickets-differ)) (p .passed-tickets-given)) (p .passed-tickets-counted)) (p .passed-versions-bounded)) (p .passed-aborts-bounded)
+    rw (
+      p .passed-in-range,
+      p .passed-sets-within,
+      p .passed-owner-listed,
+      p .passed-idle-clear,
+      p .passed-zombie-empty,
+      p .passed-at-most-eight,
+      p .passed-unused-jobs,
+      p .passed-lacked-cores,
+      p .passed-lacked-objects,
+      p .passed-owner-first,
+      p .passed-tickets-differ,
+      p .passed-tickets-given,
+      p .passed-tickets-counted,
+      p .passed-versions-bounded,
+      p .passed-aborts-bounded,
+    )
 
 -- ---- soundness gives every rule
 
@@ -189,7 +202,8 @@ standing-core m s c l =
       zombie-empty = λ p. empty-sets k (if-true (k .zombie) (emptySets k) (each-one 16 _ (s .passed-zombie-empty) c l) p);
       at-most-eight = few;
       unused-jobs = λ p h u.
-          zero-job (jobAt k p) (if-true (leb (k .count) p) (zeroJob (jobAt k p)) (each-one 8 _ (each-one 16 _ (s .passed-unused-jobs) c l) p h) (le-leb (k .count) p u));
+          zero-job (jobAt k p)
+          (if-true (leb (k .count) p) (zeroJob (jobAt k p)) (each-one 8 _ (each-one 16 _ (s .passed-unused-jobs) c l) p h) (le-leb (k .count) p u));
       owner-first = λ a p h.
           ltb-true (jobAt k (k .owner) .deadline) (jobAt k p .deadline)
           (if-true (ltb p (k .owner)) (ltb (jobAt k (k .owner) .deadline) (jobAt k p .deadline))
@@ -208,14 +222,19 @@ standing-core m s c l =
     few : k .count ≤ 8
     few = leb-true (k .count) 8 (each-one 16 _ (s .passed-at-most-eight) c l)
 
+lacked-core : (m : Machine) → Passed m → (c : ℕ) → c < 16 → m .cores ≤ c
+    → (eqb (coreAt m c .count) 0 ≡ true) × (not (coreAt m c .active) ≡ true)
+unfolding lackedCores
+lacked-core m s c l h =
+    both (eqb (coreAt m c .count) 0) (not (coreAt m c .active))
+    (if-true (leb (m .cores) c) _ (each-one 16 _ (s .passed-lacked-cores) c l) (le-leb (m .cores) c h))
+
 standing-turns : (m : Machine) → Passed m
     → Turns (m .cores) (m .tickets) (m .commits + m .«give_ups») (λ c. coreAt m c .active) (λ c. coreAt m c .ticket) (λ c. coreAt m c .aborts)
-unfolding lackedCores ticketsDiffer ticketsGiven ticketsCounted abortsBounded ahead
+unfolding ticketsDiffer ticketsGiven ticketsCounted abortsBounded ahead
 standing-turns m s =
     record {
-      lacked = λ c l h.
-          not-true (coreAt m c .active)
-          (both (eqb (coreAt m c .count) 0) (not (coreAt m c .active)) (if-true (leb (m .cores) c) _ (each-one 16 _ (s .passed-lacked-cores) c l) (le-leb (m .cores) c h)) .1);
+      lacked = λ c l h. not-true (coreAt m c .active) (lacked-core m s c l h .1);
       differ = λ c e lc le d ac ae p. sides c e lc le d ac ae p (ltb e c) refl;
       given = λ c l a. ltb-true (coreAt m c .ticket) (m .tickets) (if-true (coreAt m c .active) _ (each-one 16 _ (s .passed-tickets-given) c l) a);
       counted = eqb-true (m .tickets) _ (s .passed-tickets-counted);
@@ -235,7 +254,7 @@ standing-turns m s =
     sides c e lc le d ac ae p false t = apart e c le (omega (arith, ltb-false e c t, d)) ae ac (sym p)
 
 pub standing : {m : Machine} → sound m ≡ true → Standing m
-unfolding inRange lackedCores lackedObjects versionsBounded
+unfolding inRange lackedObjects versionsBounded
 standing {m} sound-m =
     record {
       some-cores = ltb-true 0 (m .cores) (cores .0);
@@ -243,11 +262,10 @@ standing {m} sound-m =
       some-objects = ltb-true 0 (m .objects) (some .1);
       few-objects = leb-true (m .objects) 64 (range .1);
       tidy = standing-core m s;
-      lacked-jobs = λ c l h.
-          eqb-true (coreAt m c .count) 0
-          (both (eqb (coreAt m c .count) 0) (not (coreAt m c .active)) (if-true (leb (m .cores) c) _ (each-one 16 _ (s .passed-lacked-cores) c l) (le-leb (m .cores) c h)) .0);
+      lacked-jobs = λ c l h. eqb-true (coreAt m c .count) 0 (lacked-core m s c l h .0);
       lacked-objects = λ d l h.
-          eqb-true (getD (m .versions) d 0) 0 (if-true (leb (m .objects) d) _ (each-one 64 _ (s .passed-lacked-objects) d l) (le-leb (m .objects) d h));
+          eqb-true (getD (m .versions) d 0) 0
+          (if-true (leb (m .objects) d) _ (each-one 64 _ (s .passed-lacked-objects) d l) (le-leb (m .objects) d h));
       turns = standing-turns m s;
       versions-bounded = λ d l. leb-true (getD (m .versions) d 0) (m .commits) (each-one 64 _ (s .passed-versions-bounded) d l);
     }
@@ -272,21 +290,31 @@ is-sound {m} s =
     passed-all m
     (record {
       passed-in-range =
-          ap₂ _&&_
-          (ap₂ _&&_ (ap₂ _&&_ (lt-ltb 0 (m .cores) (s .some-cores)) (le-leb (m .cores) 16 (s .few-cores))) (lt-ltb 0 (m .objects) (s .some-objects)))
-          (le-leb (m .objects) 64 (s .few-objects));
-      passed-sets-within = one-each 16 _ (λ c l. ap₂ _&&_ (is-below (k c .reads) (m .objects) (s .tidy c l .reads-within)) (is-below (k c .writes) (m .objects) (s .tidy c l .writes-within)));
+          rw (
+            lt-ltb 0 (m .cores) (s .some-cores),
+            le-leb (m .cores) 16 (s .few-cores),
+            lt-ltb 0 (m .objects) (s .some-objects),
+            le-leb (m .objects) 64 (s .few-objects),
+          );
+      passed-sets-within =
+          one-each 16 _
+          (λ c l. rw (is-below (k c .reads) (m .objects) (s .tidy c l .reads-within), is-below (k c .writes) (m .objects) (s .tidy c l .writes-within)));
       passed-owner-listed = one-each 16 _ (λ c l. true-if (k c .active) _ (λ a. lt-ltb (k c .owner) (k c .count) (s .tidy c l .owner-listed a)));
-      passed-idle-clear = one-each 16 _ (λ c l. true-if (not (k c .active)) _ (λ a. clear-is (k c) (s .tidy c l .idle-clear (not-true (k c .active) a))));
-      passed-zombie-empty = one-each 16 _ (λ c l. true-if (k c .zombie) _ (λ z. are-empty (k c) (s .tidy c l .zombie-empty z .0) (s .tidy c l .zombie-empty z .1)));
+      passed-idle-clear =
+          one-each 16 _ (λ c l. true-if (not (k c .active)) _ (λ a. clear-is (k c) (s .tidy c l .idle-clear (not-true (k c .active) a))));
+      passed-zombie-empty =
+          one-each 16 _ (λ c l. true-if (k c .zombie) _ (λ z. rw (s .tidy c l .zombie-empty z .0, s .tidy c l .zombie-empty z .1)));
       passed-at-most-eight = one-each 16 _ (λ c l. le-leb (k c .count) 8 (s .tidy c l .at-most-eight));
-      passed-unused-jobs = one-each 16 _ (λ c l. one-each 8 _ (λ p h. true-if (leb (k c .count) p) _ (λ u. ap zeroJob (s .tidy c l .unused-jobs p h (leb-true (k c .count) p u)))));
+      passed-unused-jobs =
+          one-each 16 _
+          (λ c l. one-each 8 _
+          (λ p h. true-if (leb (k c .count) p) _ (λ u. ap zeroJob (s .tidy c l .unused-jobs p h (leb-true (k c .count) p u)))));
       passed-lacked-cores =
           one-each 16 _
           (λ c l. true-if (leb (m .cores) c) _
-          (λ h. let n = leb-true (m .cores) c h in ap₂ _&&_ (eq-eqb (k c .count) 0 (s .lacked-jobs c l n)) (ap not (s .turns .lacked c l n))));
+          (λ h. rw (s .lacked-jobs c l (leb-true (m .cores) c h), s .turns .lacked c l (leb-true (m .cores) c h))));
       passed-lacked-objects =
-          one-each 64 _ (λ d l. true-if (leb (m .objects) d) _ (λ h. eq-eqb (getD (m .versions) d 0) 0 (s .lacked-objects d l (leb-true (m .objects) d h))));
+          one-each 64 _ (λ d l. true-if (leb (m .objects) d) _ (λ h. rw (s .lacked-objects d l (leb-true (m .objects) d h))));
       passed-owner-first =
           one-each 16 _
           (λ c l. true-if (k c .active) _
