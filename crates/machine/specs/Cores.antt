@@ -41,7 +41,8 @@ unmarked k =
 none-within : (objects d : ℕ) → d < 64 → has 0 d ≡ true → d < objects
 none-within objects d l p = absurd (true≢false (sym p ∙ has-zero d))
 
-pub idle-tidy : (objects : ℕ) (jobs : List Job) (n : ℕ) → n ≤ 8 → ((p : ℕ) → p < 8 → n ≤ p → getD jobs p noJob ≡ noJob) → Tidy objects (idle jobs n)
+pub idle-tidy : (objects : ℕ) (jobs : List Job) (n : ℕ) → n ≤ 8 → ((p : ℕ) → p < 8 → n ≤ p → getD jobs p noJob ≡ noJob)
+    → Tidy objects (idle jobs n)
 idle-tidy objects jobs n few unused =
     record {
       reads-within = none-within objects;
@@ -58,7 +59,7 @@ pub idle-formed : (jobs : List Job) (n : ℕ) → length jobs ≡ 8 → Formed-c
 idle-formed jobs n long = record { jobs-long = long; reads-fit = omega arith; writes-fit = omega arith }
 
 module _ (objects : ℕ) (k : Core) (s : Tidy objects k) (f : Formed-core k) where
-  -- an index of a job: the new job at the end moves no other
+  -- the new job joins the end of the list, after the owner, and moves no other
   pub released-tidy : (j : Job) → k .count < 8 → Tidy objects (withJob k j)
   released-tidy j room =
       record {
@@ -92,7 +93,8 @@ module _ (objects : ℕ) (k : Core) (s : Tidy objects k) (f : Formed-core k) whe
       kept p d = getD-set-other (k .jobs) (k .count) p j noJob d
 
   pub released-formed : (j : Job) → Formed-core (withJob k j)
-  released-formed j = record { jobs-long = length-set (k .jobs) (k .count) j ∙ f .jobs-long; reads-fit = f .reads-fit; writes-fit = f .writes-fit }
+  released-formed j =
+      record { jobs-long = length-set (k .jobs) (k .count) j ∙ f .jobs-long; reads-fit = f .reads-fit; writes-fit = f .writes-fit }
 
   -- every job listed before the one of least deadline has a greater deadline
   pub begun-tidy : (t : ℕ) → (k .count ≡ 0 → ⊥) → k .active ≡ false → Tidy objects (withTransaction k t)
@@ -166,7 +168,8 @@ module _ (objects : ℕ) (k : Core) (s : Tidy objects k) (f : Formed-core k) whe
   finished-tidy p h =
       let few : k .count ≤ 8 = s .at-most-eight in
       idle-tidy objects (without (k .jobs) p) (k .count - 1) (omega arith)
-      (λ q l u. without-unused (k .jobs) p (k .count) h (λ x m. s .unused-jobs x (omega (arith, f .jobs-long))) q (omega (arith, f .jobs-long)) u)
+      (λ q l u.
+      without-unused (k .jobs) p (k .count) h (λ x m. s .unused-jobs x (omega (arith, f .jobs-long))) q (omega (arith, f .jobs-long)) u)
 
   pub finished-formed : (p : ℕ) → p < k .count → Formed-core (idle (without (k .jobs) p) (k .count - 1))
   finished-formed p h =

@@ -21,13 +21,14 @@ use Rattle.machine.specs.Answers.{kind}
 use Rattle.machine.specs.Rule.{World, slot, withJob, withSets, without, released, begun, told, valued, written, through, ended, finished, setup, Call, Result, first, unlessLent, misfit}
 use Rattle.machine.specs.Case.{Case, is-refused, is-released, is-begun, is-told, is-valued, is-written, is-waiting, is-through, is-ended, is-finished}
 use Rattle.machine.specs.Tally.{tally-within}
-use Rattle.machine.specs.Standing.{Tidy, Standing, Formed-core, Formed, standing, is-sound}
+use Rattle.machine.specs.Standing.{Tidy, Formed-core, Formed, standing, is-sound}
 use Rattle.machine.specs.Jobs.{least-listed}
 use Rattle.machine.specs.Cores.{unmarked, idle-tidy, idle-formed, released-tidy, released-formed, told-tidy, told-formed, sets-tidy, sets-formed, finished-tidy, finished-formed, added-within}
 use Rattle.machine.specs.Entries.{changed-long}
 use Rattle.machine.specs.OneCore.{Whole, inside, put-whole, begun-whole, ended-whole}
 use Rattle.machine.specs.Commit.{through-whole}
 
+-- a sound record of the right shape, and tables of the right lengths
 pub record Good (w : World) : Type 0 where
   pub formed : Formed (w .machine)
   pub is-sound : sound (w .machine) ≡ true
@@ -39,7 +40,7 @@ whole g = record { formed = g .formed; rules = standing (g .is-sound) }
 
 good : {w : World} → Whole (w .machine) → length (w .committed) ≡ w .machine .objects
     → length (w .pending) ≡ w .machine .cores * w .machine .objects → Good w
-good g c p = record { formed = g .formed; is-sound = Rattle.machine.specs.Standing.is-sound (g .rules); committed-long = c; pending-long = p }
+good g c p = record { formed = g .formed; is-sound = is-sound (g .rules); committed-long = c; pending-long = p }
 
 -- ---- the new record of each call that changes core c
 
@@ -59,11 +60,13 @@ module _ (w : World) (c : ℕ) (g : Whole (w .machine)) (here : c < w .machine .
   released-whole : (j : Job) → k .count < 8 → Whole (released m c j .machine)
   unfolding released
   released-whole j room =
-      put-whole m c here g (withJob k j) (released-formed (m .objects) k tidy formed j) (released-tidy (m .objects) k tidy formed j room) refl refl refl
+      put-whole m c here g (withJob k j) (released-formed (m .objects) k tidy formed j)
+      (released-tidy (m .objects) k tidy formed j room) refl refl refl
 
   told-whole : k .active ≡ true → Whole (told w c .world .machine)
   unfolding told
-  told-whole on = put-whole m c here g (unmarked k) (told-formed (m .objects) k tidy formed) (told-tidy (m .objects) k tidy formed on) refl refl refl
+  told-whole on =
+      put-whole m c here g (unmarked k) (told-formed (m .objects) k tidy formed) (told-tidy (m .objects) k tidy formed on) refl refl refl
 
   valued-whole : (d : ℕ) → d < m .objects → k .active ≡ true → k .zombie ≡ false → Whole (valued w c d .world .machine)
   unfolding valued
@@ -71,7 +74,8 @@ module _ (w : World) (c : ℕ) (g : Whole (w .machine)) (here : c < w .machine .
       put-whole m c here g (withSets k (added (k .reads) d) (k .writes))
       (sets-formed (m .objects) k tidy formed (added (k .reads) d) (k .writes) (added-fits (k .reads) d) (formed .writes-fit))
       (sets-tidy (m .objects) k tidy formed (added (k .reads) d) (k .writes) on free
-      (added-within (m .objects) (k .reads) d (formed .reads-fit) (g .rules .few-objects) card (tidy .reads-within)) (tidy .writes-within)) refl refl refl
+      (added-within (m .objects) (k .reads) d (formed .reads-fit) (g .rules .few-objects) card (tidy .reads-within)) (tidy .writes-within))
+      refl refl refl
 
   written-whole : (d v : ℕ) → d < m .objects → k .active ≡ true → k .zombie ≡ false → Whole (written w c d v .world .machine)
   unfolding written
@@ -79,13 +83,15 @@ module _ (w : World) (c : ℕ) (g : Whole (w .machine)) (here : c < w .machine .
       put-whole m c here g (withSets k (k .reads) (added (k .writes) d))
       (sets-formed (m .objects) k tidy formed (k .reads) (added (k .writes) d) (formed .reads-fit) (added-fits (k .writes) d))
       (sets-tidy (m .objects) k tidy formed (k .reads) (added (k .writes) d) on free (tidy .reads-within)
-      (added-within (m .objects) (k .writes) d (formed .writes-fit) (g .rules .few-objects) card (tidy .writes-within))) refl refl refl
+      (added-within (m .objects) (k .writes) d (formed .writes-fit) (g .rules .few-objects) card (tidy .writes-within)))
+      refl refl refl
 
   finished-whole : (k .count ≡ 0 → ⊥) → k .active ≡ false → Whole (finished m c .machine)
   unfolding finished
   finished-whole some off =
       let clear = tidy .idle-clear off in
-      put-whole m c here g (idle (without (k .jobs) (running k)) (k .count - 1)) (finished-formed (m .objects) k tidy formed (running k) listed)
+      put-whole m c here g (idle (without (k .jobs) (running k)) (k .count - 1))
+      (finished-formed (m .objects) k tidy formed (running k) listed)
       (finished-tidy (m .objects) k tidy formed (running k) listed) (sym off) (sym (clear .no-ticket)) (sym (clear .no-aborts))
     where
       listed : running k < k .count
@@ -94,7 +100,9 @@ module _ (w : World) (c : ℕ) (g : Whole (w .machine)) (here : c < w .machine .
 pub keeps-good : {w w′ : World} {call : Call} {a : Answer} → Case w call a w′ → Good w → Good w′
 keeps-good {w} is-refused g = g
 keeps-good {w} (is-released {c} {number} {deadline} ok room) g =
-    unfold released in good (released-whole w c (whole g) (ok .is-core) (record { number = number; deadline = deadline }) room) (g .committed-long) (g .pending-long)
+    unfold released in
+    good (released-whole w c (whole g) (ok .is-core) (record { number = number; deadline = deadline }) room) (g .committed-long)
+    (g .pending-long)
 keeps-good {w} (is-begun {c} ok some off spare) g =
     unfold begun in good (begun-whole (w .machine) c (ok .is-core) (whole g) some off spare) (g .committed-long) (g .pending-long)
 keeps-good {w} (is-told {call} {c} asks ok mark) g =
@@ -109,7 +117,8 @@ keeps-good {w} (is-waiting ok free rival) g = g
 keeps-good {w} (is-through {c} ok free clear) g =
     unfold through in
     good (through-whole (w .machine) c (ok .core-ok .is-core) (whole g) clear (ok .active) (w .committed) (w .pending))
-    (changed-long (coreAt (w .machine) c .writes) (λ d v. getD (w .pending) (slot (w .machine) c d) 0) 0 (w .committed) ∙ g .committed-long) (g .pending-long)
+    (changed-long (coreAt (w .machine) c .writes) (λ d v. getD (w .pending) (slot (w .machine) c d) 0) 0 (w .committed)
+    ∙ g .committed-long) (g .pending-long)
 keeps-good {w} (is-ended {c} ok on) g =
     unfold ended in good (ended-whole (w .machine) c (ok .is-core) (whole g) on) (g .committed-long) (g .pending-long)
 keeps-good {w} (is-finished {c} ok some off) g =
@@ -157,7 +166,7 @@ module _ (cores objects : ℕ) where
       }
 
 -- what the tests of setup leave
-pub in-range : (a b c d : Bool) → not (a && b && c && d) ≡ false → (a ≡ true) × (b ≡ true) × (c ≡ true) × (d ≡ true)
+in-range : (a b c d : Bool) → not (a && b && c && d) ≡ false → (a ≡ true) × (b ≡ true) × (c ≡ true) × (d ≡ true)
 in-range true true true true e = (refl, refl, refl, refl)
 in-range true true true false e = absurd (true≢false e)
 in-range true true false d e = absurd (true≢false e)
@@ -189,5 +198,7 @@ setup-good cores objects committed pending =
         let r = in-range (ltb 0 cores) (leb cores 16) (ltb 0 objects) (leb objects 64) e in
         unfold first unlessLent in
         λ p.
-        good (new-whole cores objects (ltb-true 0 cores (r .0)) (leb-true cores 16 (r .1)) (ltb-true 0 objects (r .2)) (leb-true objects 64 (r .3)))
+        good
+        (new-whole cores objects (ltb-true 0 cores (r .0)) (leb-true cores 16 (r .1)) (ltb-true 0 objects (r .2))
+        (leb-true objects 64 (r .3)))
         (length-replicate {A = ℕ} objects 0) (length-replicate {A = ℕ} (cores * objects) 0)

@@ -5,6 +5,7 @@ pub mod Rule
 pub mod Case
 pub mod Tally
 pub mod Turns
+pub mod Passed
 pub mod Standing
 pub mod Jobs
 pub mod Cores

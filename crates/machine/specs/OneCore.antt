@@ -99,8 +99,8 @@ module _ (m : Machine) (c : ℕ) (here : c < m .cores) (w : Whole m) where
       (begun-tidy (m .objects) old (s .tidy c inside) (f .formed-core c inside) (m .tickets) some off)
       (turns-joined (m .cores) (m .tickets) (m .commits + m .«give_ups») (λ e. coreAt m e .active) (λ e. placed k e .active)
       (λ e. coreAt m e .ticket) (λ e. placed k e .ticket) (λ e. coreAt m e .aborts) (λ e. placed k e .aborts) c inside
-      (λ e l d. rw (elsewhere k e d)) (λ e l d. rw (elsewhere k e d)) (s .turns) here off (rw (at-place k)) (rw (at-place k)) (rw (at-place k))
-      (λ e l d. rw (elsewhere k e d)))
+      (λ e l d. rw (elsewhere k e d)) (λ e l d. rw (elsewhere k e d)) (s .turns) here off
+      (rw (at-place k)) (rw (at-place k)) (rw (at-place k)) (λ e l d. rw (elsewhere k e d)))
 
   pub ended-whole : coreAt m c .active ≡ true → Whole (ended m c .machine)
   unfolding ended
@@ -113,4 +113,5 @@ module _ (m : Machine) (c : ℕ) (here : c < m .cores) (w : Whole m) where
       (rw (← add-assoc (m .commits) (m .«give_ups») 1)
       (turns-left (m .cores) (m .tickets) (m .commits + m .«give_ups») (λ e. coreAt m e .active) (λ e. placed k e .active)
       (λ e. coreAt m e .ticket) (λ e. placed k e .ticket) (λ e. coreAt m e .aborts) (λ e. placed k e .aborts) c inside
-      (λ e l d. rw (elsewhere k e d)) (λ e l d. rw (elsewhere k e d)) (s .turns) on (rw (at-place k)) (λ e l d. rw (elsewhere k e d) (omega arith))))
+      (λ e l d. rw (elsewhere k e d)) (λ e l d. rw (elsewhere k e d)) (s .turns) on (rw (at-place k))
+      (λ e l d. rw (elsewhere k e d) (omega arith))))

@@ -32,7 +32,8 @@ not-refused a n h p = omega (arith, ap kind p)
 
 accepted-release : (m : Machine) (c number deadline : ℕ) → Accepted (released m c (record { number = number; deadline = deadline }) .answer)
 unfolding released kind
-accepted-release m c number deadline = go (eqb (running (withJob (coreAt m c) (record { number = number; deadline = deadline }))) (coreAt m c .count))
+accepted-release m c number deadline =
+    go (eqb (running (withJob (coreAt m c) (record { number = number; deadline = deadline }))) (coreAt m c .count))
   where
     go : (b : Bool) → kind (cond b Running Queued) < 11
     go true = omega arith
@@ -271,7 +272,8 @@ pub only-write-pending : (e : ℕ) (w : World) (call : Call) → isWrite call �
 unfolding rule pending read commit told valued through
 only-write-pending e w (Release c number deadline) p = refl
 only-write-pending e w (Begin c) p = refl
-only-write-pending e w (Read c d) p = lent-keeps pending w _ _ (either-keeps pending w (coreAt (w .machine) c .zombie) (told w c) (valued w c d) refl refl)
+only-write-pending e w (Read c d) p =
+    lent-keeps pending w _ _ (either-keeps pending w (coreAt (w .machine) c .zombie) (told w c) (valued w c d) refl refl)
 only-write-pending e w (Write c d v) p = absurd (true≢false p)
 only-write-pending e w (Commit c) p =
     lent-keeps pending w _ _
@@ -284,7 +286,8 @@ pub only-commit-committed : (e : ℕ) (w : World) (call : Call) → isCommit cal
 unfolding rule committed read write told valued written
 only-commit-committed e w (Release c number deadline) p = refl
 only-commit-committed e w (Begin c) p = refl
-only-commit-committed e w (Read c d) p = lent-keeps committed w _ _ (either-keeps committed w (coreAt (w .machine) c .zombie) (told w c) (valued w c d) refl refl)
+only-commit-committed e w (Read c d) p =
+    lent-keeps committed w _ _ (either-keeps committed w (coreAt (w .machine) c .zombie) (told w c) (valued w c d) refl refl)
 only-commit-committed e w (Write c d v) p =
     lent-keeps committed w _ _ (either-keeps committed w (coreAt (w .machine) c .zombie) (told w c) (written w c d v) refl refl)
 only-commit-committed e w (Commit c) p = absurd (true≢false p)

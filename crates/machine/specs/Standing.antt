@@ -1,20 +1,21 @@
 -- The standing rules as plain statements: `Standing m` holds if and only if the test `sound m` passes.
 -- `Formed m` is what the types of the record's fields give besides. Assumes nothing.
 use mathlib.Core.Path.{_≡_, refl, sym, ap, ap₂}
-use mathlib.Core.Bool.{Bool, true, false, not, _&&_, true≢false}
+use mathlib.Core.Bool.{Bool, true, false, not, _&&_}
 use Prim.Native.Nat.{ℕ, _+_, _^_, _≤_, _<_}
 use native.Mathlib.Omega.{arith}
 use lib.Dec.{eqb, leb, ltb}
 use lib.ListN.{getD, length}
 use borrow.Author.Tests.{ltb-true, ltb-false, leb-true, eqb-true, eqb-false, lt-ltb, le-leb, eq-eqb, ne-eqb, not-true}
 use Rattle.objset.specs.Objset.{has, below}
-use Rattle.objset.specs.Laws.{both-left, both-right, each-one, one-each}
+use Rattle.objset.specs.Laws.{each-one, one-each}
 use Rattle.machine.specs.declared.Machine.{Machine}
 use Rattle.machine.specs.declared.Core.{Core}
 use Rattle.machine.specs.declared.Job.{Job}
 use Rattle.machine.specs.Record.{noJob, coreAt, jobAt}
 use Rattle.machine.specs.Sound.{_⇒_, inRange, setsWithin, ownerListed, emptySets, idleClear, zombieEmpty, atMostEight, zeroJob, unusedJobs, lackedCores, lackedObjects, ownerFirst, ticketsDiffer, ticketsGiven, ticketsCounted, versionsBounded, ahead, abortsBounded, sound}
 use Rattle.machine.specs.Turns.{Turns}
+use Rattle.machine.specs.Passed.{if-true, true-if, both, Passed, passed, passed-all}
 
 -- empty sets, no mark, and owner's place, ticket and setbacks 0
 pub record Clear (k : Core) : Type 0 where
@@ -36,6 +37,11 @@ pub record Tidy (objects : ℕ) (k : Core) : Type 0 where
   pub unused-jobs : (p : ℕ) → p < 8 → k .count ≤ p → jobAt k p ≡ noJob
   pub owner-first : k .active ≡ true → (p : ℕ) → p < k .owner → jobAt k (k .owner) .deadline < jobAt k p .deadline
 
+-- the rules that tie the transactions in progress together
+abbrev pub TurnsOf : Machine → Type 0
+TurnsOf m =
+    Turns (m .cores) (m .tickets) (m .commits + m .«give_ups») (λ c. coreAt m c .active) (λ c. coreAt m c .ticket) (λ c. coreAt m c .aborts)
+
 pub record Standing (m : Machine) : Type 0 where
   pub some-cores : 0 < m .cores
   pub few-cores : m .cores ≤ 16
@@ -45,7 +51,7 @@ pub record Standing (m : Machine) : Type 0 where
   pub lacked-jobs : (c : ℕ) → c < 16 → m .cores ≤ c → coreAt m c .count ≡ 0
   pub lacked-objects : (d : ℕ) → d < 64 → m .objects ≤ d → getD (m .versions) d 0 ≡ 0
   -- a lacked core has no transaction; tickets in progress differ and were given; the count of tickets; the bound of setbacks
-  pub turns : Turns (m .cores) (m .tickets) (m .commits + m .«give_ups») (λ c. coreAt m c .active) (λ c. coreAt m c .ticket) (λ c. coreAt m c .aborts)
+  pub turns : TurnsOf m
   pub versions-bounded : (d : ℕ) → d < 64 → getD (m .versions) d 0 ≤ m .commits
 
 -- the lengths of a core's list, and its sets are words
@@ -61,17 +67,6 @@ pub record Formed (m : Machine) : Type 0 where
   pub formed-core : (c : ℕ) → c < 16 → Formed-core (coreAt m c)
 
 -- ---- tests and statements
-
-if-true : (a b : Bool) → (a ⇒ b) ≡ true → a ≡ true → b ≡ true
-if-true true b e p = e
-if-true false b e p = absurd (true≢false (sym p))
-
-true-if : (a b : Bool) → (a ≡ true → b ≡ true) → (a ⇒ b) ≡ true
-true-if true b h = h refl
-true-if false b h = refl
-
-both : (a b : Bool) → (a && b) ≡ true → (a ≡ true) × (b ≡ true)
-both a b e = (both-left a b e, both-right a b e)
 
 within : (s n : ℕ) → below s n ≡ true → (d : ℕ) → d < 64 → has s d ≡ true → d < n
 unfolding below
@@ -114,81 +109,6 @@ is-clear k e =
 clear-is : (k : Core) → Clear k → (emptySets k && not (k .zombie) && eqb (k .owner) 0 && eqb (k .ticket) 0 && eqb (k .aborts) 0) ≡ true
 clear-is k s = rw (s .no-reads, s .no-writes, s .no-mark, s .no-owner, s .no-ticket, s .no-aborts)
 
--- ---- every test passes
-
-record Passed (m : Machine) : Type 0 where
-  passed-in-range : inRange m ≡ true
-  passed-sets-within : setsWithin m ≡ true
-  passed-owner-listed : ownerListed m ≡ true
-  passed-idle-clear : idleClear m ≡ true
-  passed-zombie-empty : zombieEmpty m ≡ true
-  passed-at-most-eight : atMostEight m ≡ true
-  passed-unused-jobs : unusedJobs m ≡ true
-  passed-lacked-cores : lackedCores m ≡ true
-  passed-lacked-objects : lackedObjects m ≡ true
-  passed-owner-first : ownerFirst m ≡ true
-  passed-tickets-differ : ticketsDiffer m ≡ true
-  passed-tickets-given : ticketsGiven m ≡ true
-  passed-tickets-counted : ticketsCounted m ≡ true
-  passed-versions-bounded : versionsBounded m ≡ true
-  passed-aborts-bounded : abortsBounded m ≡ true
-
-passed : (m : Machine) → sound m ≡ true → Passed m
-unfolding sound
-passed m s =
-    let p14 = both _ (abortsBounded m) s in
-    let p13 = both _ (versionsBounded m) (p14 .0) in
-    let p12 = both _ (ticketsCounted m) (p13 .0) in
-    let p11 = both _ (ticketsGiven m) (p12 .0) in
-    let p10 = both _ (ticketsDiffer m) (p11 .0) in
-    let p9 = both _ (ownerFirst m) (p10 .0) in
-    let p8 = both _ (lackedObjects m) (p9 .0) in
-    let p7 = both _ (lackedCores m) (p8 .0) in
-    let p6 = both _ (unusedJobs m) (p7 .0) in
-    let p5 = both _ (atMostEight m) (p6 .0) in
-    let p4 = both _ (zombieEmpty m) (p5 .0) in
-    let p3 = both _ (idleClear m) (p4 .0) in
-    let p2 = both _ (ownerListed m) (p3 .0) in
-    let p1 = both (inRange m) (setsWithin m) (p2 .0) in
-    record {
-      passed-in-range = p1 .0;
-      passed-sets-within = p1 .1;
-      passed-owner-listed = p2 .1;
-      passed-idle-clear = p3 .1;
-      passed-zombie-empty = p4 .1;
-      passed-at-most-eight = p5 .1;
-      passed-unused-jobs = p6 .1;
-      passed-lacked-cores = p7 .1;
-      passed-lacked-objects = p8 .1;
-      passed-owner-first = p9 .1;
-      passed-tickets-differ = p10 .1;
-      passed-tickets-given = p11 .1;
-      passed-tickets-counted = p12 .1;
-      passed-versions-bounded = p13 .1;
-      passed-aborts-bounded = p14 .1;
-    }
-
-passed-all : (m : Machine) → Passed m → sound m ≡ true
-unfolding sound
-passed-all m p =
-    rw (
-      p .passed-in-range,
-      p .passed-sets-within,
-      p .passed-owner-listed,
-      p .passed-idle-clear,
-      p .passed-zombie-empty,
-      p .passed-at-most-eight,
-      p .passed-unused-jobs,
-      p .passed-lacked-cores,
-      p .passed-lacked-objects,
-      p .passed-owner-first,
-      p .passed-tickets-differ,
-      p .passed-tickets-given,
-      p .passed-tickets-counted,
-      p .passed-versions-bounded,
-      p .passed-aborts-bounded,
-    )
-
 -- ---- soundness gives every rule
 
 standing-core : (m : Machine) → Passed m → (c : ℕ) → c < 16 → Tidy (m .objects) (coreAt m c)
@@ -203,11 +123,13 @@ standing-core m s c l =
       at-most-eight = few;
       unused-jobs = λ p h u.
           zero-job (jobAt k p)
-          (if-true (leb (k .count) p) (zeroJob (jobAt k p)) (each-one 8 _ (each-one 16 _ (s .passed-unused-jobs) c l) p h) (le-leb (k .count) p u));
+          (if-true (leb (k .count) p) (zeroJob (jobAt k p)) (each-one 8 _ (each-one 16 _ (s .passed-unused-jobs) c l) p h)
+          (le-leb (k .count) p u));
       owner-first = λ a p h.
           ltb-true (jobAt k (k .owner) .deadline) (jobAt k p .deadline)
           (if-true (ltb p (k .owner)) (ltb (jobAt k (k .owner) .deadline) (jobAt k p .deadline))
-          (each-one 8 _ (if-true (k .active) _ (each-one 16 _ (s .passed-owner-first) c l) a) p (omega (arith, owner a, few))) (lt-ltb p (k .owner) h));
+          (each-one 8 _ (if-true (k .active) _ (each-one 16 _ (s .passed-owner-first) c l) a) p (omega (arith, owner a, few)))
+          (lt-ltb p (k .owner) h));
     }
   where
     k : Core
@@ -229,14 +151,14 @@ lacked-core m s c l h =
     both (eqb (coreAt m c .count) 0) (not (coreAt m c .active))
     (if-true (leb (m .cores) c) _ (each-one 16 _ (s .passed-lacked-cores) c l) (le-leb (m .cores) c h))
 
-standing-turns : (m : Machine) → Passed m
-    → Turns (m .cores) (m .tickets) (m .commits + m .«give_ups») (λ c. coreAt m c .active) (λ c. coreAt m c .ticket) (λ c. coreAt m c .aborts)
+standing-turns : (m : Machine) → Passed m → TurnsOf m
 unfolding ticketsDiffer ticketsGiven ticketsCounted abortsBounded ahead
 standing-turns m s =
     record {
       lacked = λ c l h. not-true (coreAt m c .active) (lacked-core m s c l h .1);
       differ = λ c e lc le d ac ae p. sides c e lc le d ac ae p (ltb e c) refl;
-      given = λ c l a. ltb-true (coreAt m c .ticket) (m .tickets) (if-true (coreAt m c .active) _ (each-one 16 _ (s .passed-tickets-given) c l) a);
+      given = λ c l a.
+          ltb-true (coreAt m c .ticket) (m .tickets) (if-true (coreAt m c .active) _ (each-one 16 _ (s .passed-tickets-given) c l) a);
       counted = eqb-true (m .tickets) _ (s .passed-tickets-counted);
       bounded = λ c l a. ltb-true _ (m .cores) (if-true (coreAt m c .active) _ (each-one 16 _ (s .passed-aborts-bounded) c l) a);
     }
@@ -246,7 +168,8 @@ standing-turns m s =
     apart c e l h ac ae =
         eqb-false (coreAt m c .ticket) (coreAt m e .ticket)
         (not-true (eqb (coreAt m c .ticket) (coreAt m e .ticket))
-        (if-true (coreAt m c .active && coreAt m e .active) _ (each-one c _ (each-one 16 _ (s .passed-tickets-differ) c l) e h) (ap₂ _&&_ ac ae)))
+        (if-true (coreAt m c .active && coreAt m e .active) _ (each-one c _ (each-one 16 _ (s .passed-tickets-differ) c l) e h)
+        (ap₂ _&&_ ac ae)))
 
     sides : (c e : ℕ) → c < 16 → e < 16 → (c ≡ e → ⊥) → coreAt m c .active ≡ true → coreAt m e .active ≡ true
         → coreAt m c .ticket ≡ coreAt m e .ticket → (q : Bool) → ltb e c ≡ q → ⊥
@@ -298,8 +221,10 @@ is-sound {m} s =
           );
       passed-sets-within =
           one-each 16 _
-          (λ c l. rw (is-below (k c .reads) (m .objects) (s .tidy c l .reads-within), is-below (k c .writes) (m .objects) (s .tidy c l .writes-within)));
-      passed-owner-listed = one-each 16 _ (λ c l. true-if (k c .active) _ (λ a. lt-ltb (k c .owner) (k c .count) (s .tidy c l .owner-listed a)));
+          (λ c l. rw
+          (is-below (k c .reads) (m .objects) (s .tidy c l .reads-within), is-below (k c .writes) (m .objects) (s .tidy c l .writes-within)));
+      passed-owner-listed =
+          one-each 16 _ (λ c l. true-if (k c .active) _ (λ a. lt-ltb (k c .owner) (k c .count) (s .tidy c l .owner-listed a)));
       passed-idle-clear =
           one-each 16 _ (λ c l. true-if (not (k c .active)) _ (λ a. clear-is (k c) (s .tidy c l .idle-clear (not-true (k c .active) a))));
       passed-zombie-empty =
@@ -320,14 +245,16 @@ is-sound {m} s =
           (λ c l. true-if (k c .active) _
           (λ a. one-each 8 _
           (λ p h. true-if (ltb p (k c .owner)) _
-          (λ b. lt-ltb (jobAt (k c) (k c .owner) .deadline) (jobAt (k c) p .deadline) (s .tidy c l .owner-first a p (ltb-true p (k c .owner) b))))));
+          (λ b. lt-ltb (jobAt (k c) (k c .owner) .deadline) (jobAt (k c) p .deadline)
+          (s .tidy c l .owner-first a p (ltb-true p (k c .owner) b))))));
       passed-tickets-differ =
           one-each 16 _
           (λ c l. one-each c _
           (λ e h. true-if (k c .active && k e .active) _
           (λ b. let p = both (k c .active) (k e .active) b in
           ap not (ne-eqb (k c .ticket) (k e .ticket) (s .turns .differ c e l (omega arith) (λ q. omega arith) (p .0) (p .1))))));
-      passed-tickets-given = one-each 16 _ (λ c l. true-if (k c .active) _ (λ a. lt-ltb (k c .ticket) (m .tickets) (s .turns .given c l a)));
+      passed-tickets-given =
+          one-each 16 _ (λ c l. true-if (k c .active) _ (λ a. lt-ltb (k c .ticket) (m .tickets) (s .turns .given c l a)));
       passed-tickets-counted = eq-eqb (m .tickets) _ (s .turns .counted);
       passed-versions-bounded = one-each 64 _ (λ d l. le-leb (getD (m .versions) d 0) (m .commits) (s .versions-bounded d l));
       passed-aborts-bounded = one-each 16 _ (λ c l. true-if (k c .active) _ (λ a. lt-ltb _ (m .cores) (s .turns .bounded c l a)));

@@ -143,7 +143,8 @@ table =
     ∷ noTicket 6 (idle (listed (job 90 ∷ [])) 0) (idle (listed (job 90 ∷ [])) 1)
     ∷ noTicket 6 (idle (listed (job 0 ∷ [])) 0) (idle (listed (noJob ∷ [])) 0)
     -- places for cores that the machine lacks hold zeros
-    ∷ row 7 (machine 1 1 0 0 (blankCore ∷ idle (listed (job 90 ∷ [])) 1 ∷ []) []) (machine 2 1 0 0 (blankCore ∷ idle (listed (job 90 ∷ [])) 1 ∷ []) [])
+    ∷ row 7 (machine 1 1 0 0 (blankCore ∷ idle (listed (job 90 ∷ [])) 1 ∷ []) [])
+    (machine 2 1 0 0 (blankCore ∷ idle (listed (job 90 ∷ [])) 1 ∷ []) [])
     ∷ row 7 (machine 1 1 1 0 (blankCore ∷ fresh ∷ []) []) (machine 2 1 1 0 (blankCore ∷ fresh ∷ []) [])
     -- and so do those for cards
     ∷ row 8 (machine 1 1 1 1 [] (0 ∷ 1 ∷ [])) (machine 1 2 1 1 [] (0 ∷ 1 ∷ []))

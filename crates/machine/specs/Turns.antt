@@ -105,7 +105,8 @@ module _ (cores tickets past : ℕ) (a a′ : ℕ → Bool) (t t′ b b′ : ℕ
             (λ m p.
             omega (
               arith,
-              tally-spared 16 cores (sooner a′ t′ (t′ c)) c here within (and-no (a′ c) (ltb (t′ c) (t′ c)) (le-ltb (t′ c) (t′ c) (omega arith)))
+              tally-spared 16 cores (sooner a′ t′ (t′ c)) c here within
+                  (and-no (a′ c) (ltb (t′ c) (t′ c)) (le-ltb (t′ c) (t′ c) (omega arith)))
                   (λ i n r. and-false (a′ i) (ltb (t′ i) (t′ c)) (lacked′ i n r)),
             ))
             (λ o m p.
