@@ -3,19 +3,16 @@
 use mathlib.Core.Path.{_≡_, refl, sym, ap, _∙_}
 use mathlib.Core.Bool.{Bool, true, false, cond, not, true≢false}
 use mathlib.Core.List.{List, [], _∷_}
-use Prim.Native.Nat.{ℕ, zero, suc, _+_}
+use Prim.Native.Nat.{ℕ, zero, suc}
 use native.Mathlib.Omega.{arith}
 use lib.Dec.{eqb}
-use lib.ListN.{set}
 use Rattle.objset.specs.Objset.{some}
 use Rattle.objset.proofs.Laws.{some-one}
 use Rattle.machine.specs.declared.Answer.{Answer}
 use Rattle.machine.specs.declared.Answer.the-variants.{Running, Queued, Waits}
 use Rattle.machine.specs.Answers.{named}
-use Rattle.machine.specs.declared.Core.{Core}
-use Rattle.machine.specs.declared.Job.{Job}
 use Rattle.machine.specs.Record.{coreAt, running}
-use Rattle.machine.specs.Rule.{World, Result, Call, Release, Begin, Read, Write, Commit, GiveUp, Finish, coreOf, rule, unlessLent, withList, told, waiting, through, released, finished, valued, contender, blocked, commitRefusal, commit}
+use Rattle.machine.specs.Rule.{World, Result, Call, Release, Begin, Read, Write, Commit, GiveUp, Finish, coreOf, rule, unlessLent, withJob, told, waiting, through, released, finished, valued, contender, blocked, commitRefusal, commit}
 use Rattle.machine.specs.Follows.{Follows}
 use Rattle.machine.proofs.Case.{Case, is-refused, is-released, is-begun, is-told, is-valued, is-written, is-waiting, is-through, is-ended, is-finished, release-case, begin-case, read-case, write-case, commit-case, give-up-case, finish-case}
 
@@ -24,15 +21,12 @@ no-waits : (q : Bool) (e : ℕ) → cond q Running Queued ≡ Waits e → ⊥
 no-waits true e p = let z : _≡_ {A = ℕ} 0 1 = cc in omega arith
 no-waits false e p = let z : _≡_ {A = ℕ} 0 1 = cc in omega arith
 
-abbrev joined : Core → Job → Core
-joined k j = withList k (set (k .jobs) (k .count) j) (k .count + 1)
-
 -- only a commit behind a contender is answered waits
 waits-only : {w w′ : World} {call : Call} {a : Answer} → Case w call a w′ → (e : ℕ) → a ≡ Waits e → contender (w .machine) (coreOf call) e ≡ true
 unfolding released finished valued through
 waits-only is-refused e p = let z : _≡_ {A = ℕ} 0 1 = cc in absurd (omega arith)
 waits-only {w = w} (is-released {c = c} {number = n} {deadline = d} ok room) e p =
-    absurd (no-waits (eqb (running (joined (coreAt (w .machine) c) (record { number = n; deadline = d }))) (coreAt (w .machine) c .count)) e p)
+    absurd (no-waits (eqb (running (withJob (coreAt (w .machine) c) (record { number = n; deadline = d }))) (coreAt (w .machine) c .count)) e p)
 waits-only (is-begun ok job idle few) e p = let z : _≡_ {A = ℕ} 0 1 = cc in absurd (omega arith)
 waits-only (is-told asks ok z) e p = let z : _≡_ {A = ℕ} 0 1 = cc in absurd (omega arith)
 waits-only (is-valued ok hd z) e p = let z : _≡_ {A = ℕ} 0 1 = cc in absurd (omega arith)

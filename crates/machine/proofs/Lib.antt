@@ -1,3 +1,4 @@
 pub mod Case
 pub mod CanFollow
+pub mod Sound
 pub mod Run

@@ -1,9 +1,9 @@
 -- The starred examples of document 01, one table: a setup, the calls after it with their answers, and the cards at the end.
 -- One computed test proves the whole table. Assumes nothing.
 use mathlib.Core.Path.{_≡_, refl}
-use mathlib.Core.Bool.{Bool, true, false, _&&_}
+use mathlib.Core.Bool.{Bool, true, _&&_}
 use mathlib.Core.List.{List, [], _∷_, _++_}
-use Prim.Native.Nat.{ℕ, zero, suc, _*_}
+use Prim.Native.Nat.{ℕ, _*_}
 use lib.ListN.{replicate}
 use Rattle.objset.specs.Objset.{has, collect, some, each, none, added, joined, meeting, below}
 use Rattle.machine.specs.declared.Answer.{Answer}
@@ -29,7 +29,8 @@ pub record Example : Type 0 where
 unfoldable pub follows : World → List Expected → List ℕ → Bool
 follows w [] cards = sameList (w .committed) cards
 follows w (x ∷ xs) cards =
-    sameAnswer (rule (named (x .answer)) w (x .call) .answer) (x .answer) && follows (rule (named (x .answer)) w (x .call) .world) xs cards
+    let r : Result = rule (named (x .answer)) w (x .call) in
+    sameAnswer (r .answer) (x .answer) && follows (r .world) xs cards
 
 unfoldable pub holds : Example → Bool
 holds x =
@@ -44,8 +45,9 @@ infix 20 _⇝_
 abbrev _⇝_ : Call → Answer → Expected
 c ⇝ a = record { call = c; answer = a }
 
-caseA : Example
-caseA =
+-- the run of the script; card 1 stays 0
+exampleA : Example
+exampleA =
     record {
       cores = 2;
       objects = 2;
@@ -57,6 +59,119 @@ caseA =
       cards = 30 ∷ 0 ∷ [];
     }
 
-all : allHold (caseA ∷ []) ≡ true
-unfolding allHold holds follows caseA rule setup first unless unlessLent released release begun begin told accessRefusal valueRead valued read written write contender blocked struck cleared changed through commitRefusal commit ended giveUp finished finish kind values named sameList sameAnswer tally least running inRange setsWithin ownerListed idleClear zombieEmpty atMostEight unusedJobs lackedCores lackedObjects ownerFirst ticketsDiffer ticketsGiven ticketsCounted versionsBounded ahead abortsBounded sound has collect some each none added joined meeting below
-all = refl
+-- a setup alone: refused 1, it leaves the lent words; accepted, it makes them zero
+refusedSetup : ℕ → ℕ → Example
+refusedSetup cores objects = record { cores = cores; objects = objects; ready = Refused 1; calls = []; cards = replicate objects 7 }
+
+acceptedSetup : ℕ → ℕ → Example
+acceptedSetup cores objects = record { cores = cores; objects = objects; ready = Ready; calls = []; cards = replicate objects 0 }
+
+-- cores 0 and 17 are refused, 1 and 16 accepted
+exampleB : List Example
+exampleB = refusedSetup 0 1 ∷ refusedSetup 17 1 ∷ acceptedSetup 1 1 ∷ acceptedSetup 16 1 ∷ []
+
+-- cards 64 accepted, 65 not
+exampleC : List Example
+exampleC = acceptedSetup 1 64 ∷ refusedSetup 1 65 ∷ []
+
+-- core 16 of 16 is refused by every call, core 15 accepted
+exampleD : Example
+exampleD =
+    record {
+      cores = 16;
+      objects = 1;
+      ready = Ready;
+      calls =
+          (Release 16 1 90 ⇝ Refused 4) ∷ (Begin 16 ⇝ Refused 4) ∷ (Read 16 0 ⇝ Refused 4) ∷ (Write 16 0 5 ⇝ Refused 4)
+          ∷ (Commit 16 ⇝ Refused 4) ∷ (GiveUp 16 ⇝ Refused 4) ∷ (Finish 16 ⇝ Refused 4) ∷ (Release 15 1 90 ⇝ Running) ∷ (Begin 15 ⇝ Begun 0)
+          ∷ (Read 15 0 ⇝ Value 0 0) ∷ (Write 15 0 5 ⇝ Written) ∷ (Commit 15 ⇝ Committed 0) ∷ (Begin 15 ⇝ Begun 1) ∷ (GiveUp 15 ⇝ Ended)
+          ∷ (Finish 15 ⇝ Finished 1) ∷ [];
+      cards = 5 ∷ [];
+    }
+
+-- the eighth job joins, the ninth is refused 6
+exampleE : Example
+exampleE =
+    record {
+      cores = 1;
+      objects = 1;
+      ready = Ready;
+      calls =
+          (Release 0 1 90 ⇝ Running) ∷ (Release 0 2 91 ⇝ Queued) ∷ (Release 0 3 92 ⇝ Queued) ∷ (Release 0 4 93 ⇝ Queued)
+          ∷ (Release 0 5 94 ⇝ Queued) ∷ (Release 0 6 95 ⇝ Queued) ∷ (Release 0 7 96 ⇝ Queued) ∷ (Release 0 8 97 ⇝ Queued)
+          ∷ (Release 0 9 98 ⇝ Refused 6) ∷ [];
+      cards = 0 ∷ [];
+    }
+
+-- begin twice: 8
+exampleF : Example
+exampleF =
+    record {
+      cores = 1;
+      objects = 1;
+      ready = Ready;
+      calls = (Release 0 1 90 ⇝ Running) ∷ (Begin 0 ⇝ Begun 0) ∷ (Begin 0 ⇝ Refused 8) ∷ [];
+      cards = 0 ∷ [];
+    }
+
+-- two jobs released on two cores and a transaction begun for each
+bothBegun : List Expected
+bothBegun = (Release 0 1 90 ⇝ Running) ∷ (Release 1 2 90 ⇝ Running) ∷ (Begin 0 ⇝ Begun 0) ∷ (Begin 1 ⇝ Begun 1) ∷ []
+
+-- a later writer of a card that the earlier one has not touched commits first
+exampleG : Example
+exampleG =
+    record {
+      cores = 2;
+      objects = 2;
+      ready = Ready;
+      calls =
+          bothBegun ++ ((Write 0 0 5 ⇝ Written) ∷ (Write 1 1 6 ⇝ Written) ∷ (Commit 1 ⇝ Committed 0) ∷ (Commit 0 ⇝ Committed 0) ∷ []);
+      cards = 5 ∷ 6 ∷ [];
+    }
+
+-- two readers of one card: neither waits
+exampleH : Example
+exampleH =
+    record {
+      cores = 2;
+      objects = 1;
+      ready = Ready;
+      calls =
+          bothBegun ++ ((Read 0 0 ⇝ Value 0 0) ∷ (Read 1 0 ⇝ Value 0 0) ∷ (Commit 1 ⇝ Committed 0) ∷ (Commit 0 ⇝ Committed 0) ∷ []);
+      cards = 0 ∷ [];
+    }
+
+-- a marked core reads card 64 of 64: refusal 5, and its next read finds the mark kept
+exampleI : Example
+exampleI =
+    record {
+      cores = 2;
+      objects = 64;
+      ready = Ready;
+      calls =
+          bothBegun
+          ++ ((Read 1 63 ⇝ Value 0 0) ∷ (Write 0 63 5 ⇝ Written) ∷ (Commit 0 ⇝ Committed 0) ∷ (Read 1 64 ⇝ Refused 5) ∷ (Read 1 63 ⇝ SetBack)
+          ∷ (Read 1 63 ⇝ Value 5 1) ∷ []);
+      cards = replicate 63 0 ++ (5 ∷ []);
+    }
+
+-- deadlines 90, 90: the first released runs
+exampleJ : Example
+exampleJ =
+    record {
+      cores = 1;
+      objects = 1;
+      ready = Ready;
+      calls = (Release 0 1 90 ⇝ Running) ∷ (Release 0 2 90 ⇝ Queued) ∷ (Finish 0 ⇝ Finished 1) ∷ (Finish 0 ⇝ Finished 2) ∷ [];
+      cards = 0 ∷ [];
+    }
+
+pub examples : List Example
+examples =
+    (exampleA ∷ exampleB) ++ exampleC
+    ++ (exampleD ∷ exampleE ∷ exampleF ∷ exampleG ∷ exampleH ∷ exampleI ∷ exampleJ ∷ [])
+
+pub all-hold : allHold examples ≡ true
+unfolding examples exampleA refusedSetup acceptedSetup exampleB exampleC exampleD exampleE exampleF bothBegun exampleG exampleH exampleI exampleJ allHold holds follows rule setup first unless unlessLent released release begun begin told accessRefusal valueRead valued read written write contender blocked struck cleared changed through commitRefusal commit ended giveUp finished finish kind values named sameList sameAnswer tally least running inRange setsWithin ownerListed idleClear zombieEmpty atMostEight unusedJobs lackedCores lackedObjects ownerFirst ticketsDiffer ticketsGiven ticketsCounted versionsBounded ahead abortsBounded sound has collect some each none added joined meeting below
+all-hold = refl

@@ -106,11 +106,14 @@ withList k jobs n =
       writes = k .writes;
     }
 
+-- the job joins the end of the list
+abbrev pub withJob : Core → Job → Core
+withJob k j = withList k (set (k .jobs) (k .count) j) (k .count + 1)
+
 unfoldable pub released : Machine → ℕ → Job → Outcome
 released m c j =
-    let k : Core = coreAt m c in
-    let k′ : Core = withList k (set (k .jobs) (k .count) j) (k .count + 1) in
-    record { answer = cond (eqb (running k′) (k .count)) Running Queued; machine = putCore m c k′ }
+    let k : Core = withJob (coreAt m c) j in
+    record { answer = cond (eqb (running k) (coreAt m c .count)) Running Queued; machine = putCore m c k }
 
 unfoldable pub release : Machine → ℕ → ℕ → ℕ → Outcome
 release m c number deadline =

@@ -1,0 +1,12 @@
+mod Tally
+mod Turns
+mod Passed
+pub mod Standing
+mod Jobs
+mod Cores
+mod Entries
+mod OneCore
+mod Commit
+pub mod Keeps
+pub mod Single
+mod StandingTable

@@ -1,0 +1,90 @@
+-- Soundness is fifteen tests, and all of them pass. Assumes nothing.
+use mathlib.Core.Path.{_≡_, refl, sym}
+use mathlib.Core.Bool.{Bool, true, false, _&&_, true≢false}
+use Rattle.objset.proofs.Laws.{both-left, both-right}
+use Rattle.machine.specs.declared.Machine.{Machine}
+use Rattle.machine.specs.Sound.{_⇒_, inRange, setsWithin, ownerListed, idleClear, zombieEmpty, atMostEight, unusedJobs, lackedCores, lackedObjects, ownerFirst, ticketsDiffer, ticketsGiven, ticketsCounted, versionsBounded, abortsBounded, sound}
+
+pub if-true : (a b : Bool) → (a ⇒ b) ≡ true → a ≡ true → b ≡ true
+if-true true b e p = e
+if-true false b e p = absurd (true≢false (sym p))
+
+pub true-if : (a b : Bool) → (a ≡ true → b ≡ true) → (a ⇒ b) ≡ true
+true-if true b h = h refl
+true-if false b h = refl
+
+pub both : (a b : Bool) → (a && b) ≡ true → (a ≡ true) × (b ≡ true)
+both a b e = (both-left a b e, both-right a b e)
+
+pub record Passed (m : Machine) : Type 0 where
+  pub passed-in-range : inRange m ≡ true
+  pub passed-sets-within : setsWithin m ≡ true
+  pub passed-owner-listed : ownerListed m ≡ true
+  pub passed-idle-clear : idleClear m ≡ true
+  pub passed-zombie-empty : zombieEmpty m ≡ true
+  pub passed-at-most-eight : atMostEight m ≡ true
+  pub passed-unused-jobs : unusedJobs m ≡ true
+  pub passed-lacked-cores : lackedCores m ≡ true
+  pub passed-lacked-objects : lackedObjects m ≡ true
+  pub passed-owner-first : ownerFirst m ≡ true
+  pub passed-tickets-differ : ticketsDiffer m ≡ true
+  pub passed-tickets-given : ticketsGiven m ≡ true
+  pub passed-tickets-counted : ticketsCounted m ≡ true
+  pub passed-versions-bounded : versionsBounded m ≡ true
+  pub passed-aborts-bounded : abortsBounded m ≡ true
+
+pub passed : (m : Machine) → sound m ≡ true → Passed m
+unfolding sound
+passed m s =
+    let p14 = both _ (abortsBounded m) s in
+    let p13 = both _ (versionsBounded m) (p14 .0) in
+    let p12 = both _ (ticketsCounted m) (p13 .0) in
+    let p11 = both _ (ticketsGiven m) (p12 .0) in
+    let p10 = both _ (ticketsDiffer m) (p11 .0) in
+    let p9 = both _ (ownerFirst m) (p10 .0) in
+    let p8 = both _ (lackedObjects m) (p9 .0) in
+    let p7 = both _ (lackedCores m) (p8 .0) in
+    let p6 = both _ (unusedJobs m) (p7 .0) in
+    let p5 = both _ (atMostEight m) (p6 .0) in
+    let p4 = both _ (zombieEmpty m) (p5 .0) in
+    let p3 = both _ (idleClear m) (p4 .0) in
+    let p2 = both _ (ownerListed m) (p3 .0) in
+    let p1 = both (inRange m) (setsWithin m) (p2 .0) in
+    record {
+      passed-in-range = p1 .0;
+      passed-sets-within = p1 .1;
+      passed-owner-listed = p2 .1;
+      passed-idle-clear = p3 .1;
+      passed-zombie-empty = p4 .1;
+      passed-at-most-eight = p5 .1;
+      passed-unused-jobs = p6 .1;
+      passed-lacked-cores = p7 .1;
+      passed-lacked-objects = p8 .1;
+      passed-owner-first = p9 .1;
+      passed-tickets-differ = p10 .1;
+      passed-tickets-given = p11 .1;
+      passed-tickets-counted = p12 .1;
+      passed-versions-bounded = p13 .1;
+      passed-aborts-bounded = p14 .1;
+    }
+
+pub passed-all : (m : Machine) → Passed m → sound m ≡ true
+unfolding sound
+passed-all m p =
+    rw (
+      p .passed-in-range,
+      p .passed-sets-within,
+      p .passed-owner-listed,
+      p .passed-idle-clear,
+      p .passed-zombie-empty,
+      p .passed-at-most-eight,
+      p .passed-unused-jobs,
+      p .passed-lacked-cores,
+      p .passed-lacked-objects,
+      p .passed-owner-first,
+      p .passed-tickets-differ,
+      p .passed-tickets-given,
+      p .passed-tickets-counted,
+      p .passed-versions-bounded,
+      p .passed-aborts-bounded,
+    )

@@ -1,0 +1,264 @@
+-- The standing rules as plain statements: `Standing m` holds if and only if the test `sound m` passes.
+-- `Formed m` is what the types of the record's fields give besides. Assumes nothing.
+use mathlib.Core.Path.{_≡_, refl, sym, ap, ap₂}
+use mathlib.Core.Bool.{Bool, true, false, not, _&&_}
+use Prim.Native.Nat.{ℕ, _+_, _^_, _≤_, _<_}
+use native.Mathlib.Omega.{arith}
+use lib.Dec.{eqb, leb, ltb}
+use lib.ListN.{getD, length}
+use borrow.Author.Tests.{ltb-true, ltb-false, leb-true, eqb-true, eqb-false, lt-ltb, le-leb, eq-eqb, ne-eqb, not-true}
+use Rattle.objset.specs.Objset.{has, below}
+use Rattle.objset.proofs.Laws.{each-one, one-each}
+use Rattle.machine.specs.declared.Machine.{Machine}
+use Rattle.machine.specs.declared.Core.{Core}
+use Rattle.machine.specs.declared.Job.{Job}
+use Rattle.machine.specs.Record.{noJob, coreAt, jobAt}
+use Rattle.machine.specs.Sound.{_⇒_, inRange, setsWithin, ownerListed, emptySets, idleClear, zombieEmpty, atMostEight, zeroJob, unusedJobs, lackedCores, lackedObjects, ownerFirst, ticketsDiffer, ticketsGiven, ticketsCounted, versionsBounded, ahead, abortsBounded, sound}
+use Rattle.machine.proofs.Sound.Turns.{Turns}
+use Rattle.machine.proofs.Sound.Passed.{if-true, true-if, both, Passed, passed, passed-all}
+
+-- empty sets, no mark, and owner's place, ticket and setbacks 0
+pub record Clear (k : Core) : Type 0 where
+  pub no-reads : k .reads ≡ 0
+  pub no-writes : k .writes ≡ 0
+  pub no-mark : k .zombie ≡ false
+  pub no-owner : k .owner ≡ 0
+  pub no-ticket : k .ticket ≡ 0
+  pub no-aborts : k .aborts ≡ 0
+
+-- the rules that a core keeps by itself
+pub record Tidy (objects : ℕ) (k : Core) : Type 0 where
+  pub reads-within : (d : ℕ) → d < 64 → has (k .reads) d ≡ true → d < objects
+  pub writes-within : (d : ℕ) → d < 64 → has (k .writes) d ≡ true → d < objects
+  pub owner-listed : k .active ≡ true → k .owner < k .count
+  pub idle-clear : k .active ≡ false → Clear k
+  pub zombie-empty : k .zombie ≡ true → (k .reads ≡ 0) × (k .writes ≡ 0)
+  pub at-most-eight : k .count ≤ 8
+  pub unused-jobs : (p : ℕ) → p < 8 → k .count ≤ p → jobAt k p ≡ noJob
+  pub owner-first : k .active ≡ true → (p : ℕ) → p < k .owner → jobAt k (k .owner) .deadline < jobAt k p .deadline
+
+-- the rules that tie the transactions in progress together
+abbrev pub TurnsOf : Machine → Type 0
+TurnsOf m =
+    Turns (m .cores) (m .tickets) (m .commits + m .«give_ups») (λ c. coreAt m c .active) (λ c. coreAt m c .ticket) (λ c. coreAt m c .aborts)
+
+pub record Standing (m : Machine) : Type 0 where
+  pub some-cores : 0 < m .cores
+  pub few-cores : m .cores ≤ 16
+  pub some-objects : 0 < m .objects
+  pub few-objects : m .objects ≤ 64
+  pub tidy : (c : ℕ) → c < 16 → Tidy (m .objects) (coreAt m c)
+  pub lacked-jobs : (c : ℕ) → c < 16 → m .cores ≤ c → coreAt m c .count ≡ 0
+  pub lacked-objects : (d : ℕ) → d < 64 → m .objects ≤ d → getD (m .versions) d 0 ≡ 0
+  -- a lacked core has no transaction; tickets in progress differ and were given; the count of tickets; the bound of setbacks
+  pub turns : TurnsOf m
+  pub versions-bounded : (d : ℕ) → d < 64 → getD (m .versions) d 0 ≤ m .commits
+
+-- the lengths of a core's list, and its sets are words
+pub record Formed-core (k : Core) : Type 0 where
+  pub jobs-long : length (k .jobs) ≡ 8
+  pub reads-fit : k .reads < 2 ^ 64
+  pub writes-fit : k .writes < 2 ^ 64
+
+pub record Formed (m : Machine) : Type 0 where
+  pub core-long : length (m .core) ≡ 16
+  pub versions-long : length (m .versions) ≡ 64
+  pub tickets-fit : m .tickets ≤ 4294967295
+  pub formed-core : (c : ℕ) → c < 16 → Formed-core (coreAt m c)
+
+-- ---- tests and statements
+
+within : (s n : ℕ) → below s n ≡ true → (d : ℕ) → d < 64 → has s d ≡ true → d < n
+unfolding below
+within s n e d l p = ltb-true d n (if-true (has s d) (ltb d n) (each-one 64 (λ x. has s x ⇒ ltb x n) e d l) p)
+
+is-below : (s n : ℕ) → ((d : ℕ) → d < 64 → has s d ≡ true → d < n) → below s n ≡ true
+unfolding below
+is-below s n h = one-each 64 (λ x. has s x ⇒ ltb x n) (λ d l. true-if (has s d) (ltb d n) (λ p. lt-ltb d n (h d l p)))
+
+zero-job : (j : Job) → zeroJob j ≡ true → j ≡ noJob
+zero-job j e =
+    let p = both (eqb (j .number) 0) (eqb (j .deadline) 0) e in
+    let n = eqb-true (j .number) 0 (p .0) in
+    let d = eqb-true (j .deadline) 0 (p .1) in
+    λ i. record { number = n i; deadline = d i }
+
+empty-sets : (k : Core) → emptySets k ≡ true → (k .reads ≡ 0) × (k .writes ≡ 0)
+empty-sets k e =
+    let p = both (eqb (k .reads) 0) (eqb (k .writes) 0) e in
+    (eqb-true (k .reads) 0 (p .0), eqb-true (k .writes) 0 (p .1))
+
+are-empty : (k : Core) → k .reads ≡ 0 → k .writes ≡ 0 → emptySets k ≡ true
+are-empty k p q = rw (p, q)
+
+is-clear : (k : Core) → (emptySets k && not (k .zombie) && eqb (k .owner) 0 && eqb (k .ticket) 0 && eqb (k .aborts) 0) ≡ true → Clear k
+is-clear k e =
+    let p = both _ (eqb (k .aborts) 0) e in
+    let q = both _ (eqb (k .ticket) 0) (p .0) in
+    let r = both _ (eqb (k .owner) 0) (q .0) in
+    let s = both (emptySets k) (not (k .zombie)) (r .0) in
+    record {
+      no-reads = empty-sets k (s .0) .0;
+      no-writes = empty-sets k (s .0) .1;
+      no-mark = not-true (k .zombie) (s .1);
+      no-owner = eqb-true (k .owner) 0 (r .1);
+      no-ticket = eqb-true (k .ticket) 0 (q .1);
+      no-aborts = eqb-true (k .aborts) 0 (p .1);
+    }
+
+clear-is : (k : Core) → Clear k → (emptySets k && not (k .zombie) && eqb (k .owner) 0 && eqb (k .ticket) 0 && eqb (k .aborts) 0) ≡ true
+clear-is k s = rw (s .no-reads, s .no-writes, s .no-mark, s .no-owner, s .no-ticket, s .no-aborts)
+
+-- ---- soundness gives every rule
+
+standing-core : (m : Machine) → Passed m → (c : ℕ) → c < 16 → Tidy (m .objects) (coreAt m c)
+unfolding setsWithin ownerListed idleClear zombieEmpty atMostEight unusedJobs ownerFirst
+standing-core m s c l =
+    record {
+      reads-within = within (k .reads) (m .objects) (sets .0);
+      writes-within = within (k .writes) (m .objects) (sets .1);
+      owner-listed = owner;
+      idle-clear = λ p. is-clear k (if-true (not (k .active)) _ (each-one 16 _ (s .passed-idle-clear) c l) (ap not p));
+      zombie-empty = λ p. empty-sets k (if-true (k .zombie) (emptySets k) (each-one 16 _ (s .passed-zombie-empty) c l) p);
+      at-most-eight = few;
+      unused-jobs = λ p h u.
+          zero-job (jobAt k p)
+          (if-true (leb (k .count) p) (zeroJob (jobAt k p)) (each-one 8 _ (each-one 16 _ (s .passed-unused-jobs) c l) p h)
+          (le-leb (k .count) p u));
+      owner-first = λ a p h.
+          ltb-true (jobAt k (k .owner) .deadline) (jobAt k p .deadline)
+          (if-true (ltb p (k .owner)) (ltb (jobAt k (k .owner) .deadline) (jobAt k p .deadline))
+          (each-one 8 _ (if-true (k .active) _ (each-one 16 _ (s .passed-owner-first) c l) a) p (omega (arith, owner a, few)))
+          (lt-ltb p (k .owner) h));
+    }
+  where
+    k : Core
+    k = coreAt m c
+
+    sets : (below (k .reads) (m .objects) ≡ true) × (below (k .writes) (m .objects) ≡ true)
+    sets = both (below (k .reads) (m .objects)) (below (k .writes) (m .objects)) (each-one 16 _ (s .passed-sets-within) c l)
+
+    owner : k .active ≡ true → k .owner < k .count
+    owner a = ltb-true (k .owner) (k .count) (if-true (k .active) _ (each-one 16 _ (s .passed-owner-listed) c l) a)
+
+    few : k .count ≤ 8
+    few = leb-true (k .count) 8 (each-one 16 _ (s .passed-at-most-eight) c l)
+
+lacked-core : (m : Machine) → Passed m → (c : ℕ) → c < 16 → m .cores ≤ c
+    → (eqb (coreAt m c .count) 0 ≡ true) × (not (coreAt m c .active) ≡ true)
+unfolding lackedCores
+lacked-core m s c l h =
+    both (eqb (coreAt m c .count) 0) (not (coreAt m c .active))
+    (if-true (leb (m .cores) c) _ (each-one 16 _ (s .passed-lacked-cores) c l) (le-leb (m .cores) c h))
+
+standing-turns : (m : Machine) → Passed m → TurnsOf m
+unfolding ticketsDiffer ticketsGiven ticketsCounted abortsBounded ahead
+standing-turns m s =
+    record {
+      lacked = λ c l h. not-true (coreAt m c .active) (lacked-core m s c l h .1);
+      differ = λ c e lc le d ac ae p. sides c e lc le d ac ae p (ltb e c) refl;
+      given = λ c l a.
+          ltb-true (coreAt m c .ticket) (m .tickets) (if-true (coreAt m c .active) _ (each-one 16 _ (s .passed-tickets-given) c l) a);
+      counted = eqb-true (m .tickets) _ (s .passed-tickets-counted);
+      bounded = λ c l a. ltb-true _ (m .cores) (if-true (coreAt m c .active) _ (each-one 16 _ (s .passed-aborts-bounded) c l) a);
+    }
+  where
+    -- the test looks at pairs with the greater core first
+    apart : (c e : ℕ) → c < 16 → e < c → coreAt m c .active ≡ true → coreAt m e .active ≡ true → coreAt m c .ticket ≡ coreAt m e .ticket → ⊥
+    apart c e l h ac ae =
+        eqb-false (coreAt m c .ticket) (coreAt m e .ticket)
+        (not-true (eqb (coreAt m c .ticket) (coreAt m e .ticket))
+        (if-true (coreAt m c .active && coreAt m e .active) _ (each-one c _ (each-one 16 _ (s .passed-tickets-differ) c l) e h)
+        (ap₂ _&&_ ac ae)))
+
+    sides : (c e : ℕ) → c < 16 → e < 16 → (c ≡ e → ⊥) → coreAt m c .active ≡ true → coreAt m e .active ≡ true
+        → coreAt m c .ticket ≡ coreAt m e .ticket → (q : Bool) → ltb e c ≡ q → ⊥
+    sides c e lc le d ac ae p true t = apart c e lc (ltb-true e c t) ac ae p
+    sides c e lc le d ac ae p false t = apart e c le (omega (arith, ltb-false e c t, d)) ae ac (sym p)
+
+pub standing : {m : Machine} → sound m ≡ true → Standing m
+unfolding inRange lackedObjects versionsBounded
+standing {m} sound-m =
+    record {
+      some-cores = ltb-true 0 (m .cores) (cores .0);
+      few-cores = leb-true (m .cores) 16 (cores .1);
+      some-objects = ltb-true 0 (m .objects) (some .1);
+      few-objects = leb-true (m .objects) 64 (range .1);
+      tidy = standing-core m s;
+      lacked-jobs = λ c l h. eqb-true (coreAt m c .count) 0 (lacked-core m s c l h .0);
+      lacked-objects = λ d l h.
+          eqb-true (getD (m .versions) d 0) 0
+          (if-true (leb (m .objects) d) _ (each-one 64 _ (s .passed-lacked-objects) d l) (le-leb (m .objects) d h));
+      turns = standing-turns m s;
+      versions-bounded = λ d l. leb-true (getD (m .versions) d 0) (m .commits) (each-one 64 _ (s .passed-versions-bounded) d l);
+    }
+  where
+    s : Passed m
+    s = passed m sound-m
+
+    range : ((ltb 0 (m .cores) && leb (m .cores) 16 && ltb 0 (m .objects)) ≡ true) × (leb (m .objects) 64 ≡ true)
+    range = both _ (leb (m .objects) 64) (s .passed-in-range)
+
+    some : ((ltb 0 (m .cores) && leb (m .cores) 16) ≡ true) × (ltb 0 (m .objects) ≡ true)
+    some = both _ (ltb 0 (m .objects)) (range .0)
+
+    cores : (ltb 0 (m .cores) ≡ true) × (leb (m .cores) 16 ≡ true)
+    cores = both (ltb 0 (m .cores)) (leb (m .cores) 16) (some .0)
+
+-- ---- the rules together give soundness
+
+pub is-sound : {m : Machine} → Standing m → sound m ≡ true
+unfolding inRange setsWithin ownerListed idleClear zombieEmpty atMostEight unusedJobs lackedCores lackedObjects ownerFirst ticketsDiffer ticketsGiven ticketsCounted versionsBounded ahead abortsBounded
+is-sound {m} s =
+    passed-all m
+    (record {
+      passed-in-range =
+          rw (
+            lt-ltb 0 (m .cores) (s .some-cores),
+            le-leb (m .cores) 16 (s .few-cores),
+            lt-ltb 0 (m .objects) (s .some-objects),
+            le-leb (m .objects) 64 (s .few-objects),
+          );
+      passed-sets-within =
+          one-each 16 _
+          (λ c l. rw
+          (is-below (k c .reads) (m .objects) (s .tidy c l .reads-within), is-below (k c .writes) (m .objects) (s .tidy c l .writes-within)));
+      passed-owner-listed =
+          one-each 16 _ (λ c l. true-if (k c .active) _ (λ a. lt-ltb (k c .owner) (k c .count) (s .tidy c l .owner-listed a)));
+      passed-idle-clear =
+          one-each 16 _ (λ c l. true-if (not (k c .active)) _ (λ a. clear-is (k c) (s .tidy c l .idle-clear (not-true (k c .active) a))));
+      passed-zombie-empty =
+          one-each 16 _ (λ c l. true-if (k c .zombie) _ (λ z. rw (s .tidy c l .zombie-empty z .0, s .tidy c l .zombie-empty z .1)));
+      passed-at-most-eight = one-each 16 _ (λ c l. le-leb (k c .count) 8 (s .tidy c l .at-most-eight));
+      passed-unused-jobs =
+          one-each 16 _
+          (λ c l. one-each 8 _
+          (λ p h. true-if (leb (k c .count) p) _ (λ u. ap zeroJob (s .tidy c l .unused-jobs p h (leb-true (k c .count) p u)))));
+      passed-lacked-cores =
+          one-each 16 _
+          (λ c l. true-if (leb (m .cores) c) _
+          (λ h. rw (s .lacked-jobs c l (leb-true (m .cores) c h), s .turns .lacked c l (leb-true (m .cores) c h))));
+      passed-lacked-objects =
+          one-each 64 _ (λ d l. true-if (leb (m .objects) d) _ (λ h. rw (s .lacked-objects d l (leb-true (m .objects) d h))));
+      passed-owner-first =
+          one-each 16 _
+          (λ c l. true-if (k c .active) _
+          (λ a. one-each 8 _
+          (λ p h. true-if (ltb p (k c .owner)) _
+          (λ b. lt-ltb (jobAt (k c) (k c .owner) .deadline) (jobAt (k c) p .deadline)
+          (s .tidy c l .owner-first a p (ltb-true p (k c .owner) b))))));
+      passed-tickets-differ =
+          one-each 16 _
+          (λ c l. one-each c _
+          (λ e h. true-if (k c .active && k e .active) _
+          (λ b. let p = both (k c .active) (k e .active) b in
+          ap not (ne-eqb (k c .ticket) (k e .ticket) (s .turns .differ c e l (omega arith) (λ q. omega arith) (p .0) (p .1))))));
+      passed-tickets-given =
+          one-each 16 _ (λ c l. true-if (k c .active) _ (λ a. lt-ltb (k c .ticket) (m .tickets) (s .turns .given c l a)));
+      passed-tickets-counted = eq-eqb (m .tickets) _ (s .turns .counted);
+      passed-versions-bounded = one-each 64 _ (λ d l. le-leb (getD (m .versions) d 0) (m .commits) (s .versions-bounded d l));
+      passed-aborts-bounded = one-each 16 _ (λ c l. true-if (k c .active) _ (λ a. lt-ltb _ (m .cores) (s .turns .bounded c l a)));
+    })
+  where
+    k : ℕ → Core
+    k c = coreAt m c
