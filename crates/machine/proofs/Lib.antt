@@ -1,3 +1,5 @@
+mod Tally
+mod Entries
 pub mod Case
 pub mod CanFollow
 pub mod Sound

@@ -1,7 +1,6 @@
 mod Orderly
 mod Births
 mod Order
-mod Tally
 mod Strikes
 mod Eldest
 mod RoundsBound

@@ -1,10 +1,8 @@
-mod Tally
 mod Turns
 mod Passed
 pub mod Standing
 mod Jobs
 mod Cores
-mod Entries
 mod OneCore
 mod Commit
 pub mod Keeps

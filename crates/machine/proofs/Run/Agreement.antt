@@ -26,7 +26,7 @@ use Rattle.machine.specs.Serial.{effect, serial, version}
 use Rattle.machine.proofs.Run.Orderly.{Acting, Reading, Waiting, Committing, Allowed, Orderly}
 use Rattle.machine.proofs.Run.View.{View, view, further, Over, concerns, view-other, view-begins, view-reads, view-writes, view-waits, view-told, view-gives, view-commits, view-struck}
 use Rattle.machine.proofs.Run.Effects.{lastWrite, effect-long, effect-unwritten, effect-written}
-use Rattle.machine.proofs.Run.Places.{slot-inside, slot-core, slot-object, cleared-at, cleared-long, changed-at, changed-long}
+use Rattle.machine.proofs.Run.Places.{slot-inside, slot-core, slot-object}
 use Rattle.machine.proofs.Run.CoreAgrees.{CoreAgrees, agrees-idle, agrees-list, agrees-read, agrees-write, agrees-struck, agrees-told, agrees-begun, meets-crosses, void-crosses}
 
 pub record Agree (o : ℕ) (w : World) (h : List Deed) : Type 0 where

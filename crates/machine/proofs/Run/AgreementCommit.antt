@@ -23,16 +23,27 @@ use Rattle.machine.specs.Serial.{effect, serial, version}
 use Rattle.machine.proofs.Run.Orderly.{Committing}
 use Rattle.machine.proofs.Run.View.{View, view, Over, view-other, view-commits, view-struck}
 use Rattle.machine.proofs.Run.Effects.{lastWrite, effect-long, effect-unwritten, effect-written}
-use Rattle.machine.proofs.Run.Places.{cleared-at, cleared-long, changed-at, changed-long}
+use Rattle.machine.proofs.Entries.{cleared-at, cleared-long, changed-at, changed-long}
 use Rattle.machine.proofs.Run.CoreAgrees.{CoreAgrees, agrees-idle, agrees-struck, meets-crosses, void-crosses, eqb-sym}
 use Rattle.machine.proofs.Run.Order.{born-apart}
 use Rattle.machine.proofs.Run.Agreement.{Agree, inside, acting, read-alone}
 
 module _ {o : ℕ} {w : World} {h : List Deed} (a : Agree o w h) (c : ℕ) (ok : Lent-ok w c) where
+  -- the committing transaction's write set, and the setbacks that it reports
+  abbrev ws : ℕ
+  ws = coreAt (w .machine) c .writes
+
+  abbrev n : ℕ
+  n = coreAt (w .machine) c .aborts
+
+  -- what becomes of card d's committed value
+  abbrev moved : ℕ → ℕ → ℕ
+  moved d v = getD (w .pending) (c * w .machine .objects + d) 0
+
   -- the record strikes core e where the words do
   record-strikes : (e : ℕ) → eqb c e ≡ false
-      → (coreAt (w .machine) e .active && meeting (coreAt (w .machine) c .writes) (dataSet (coreAt (w .machine) e)))
-      ≡ strikes (commits c (coreAt (w .machine) c .aborts)) h e
+      → (coreAt (w .machine) e .active && meeting ws (dataSet (coreAt (w .machine) e)))
+      ≡ strikes (commits c n) h e
   record-strikes e q =
       ap₂ _&&_ (a .each-core e .same-going)
       (meets-crosses (coreAt (w .machine) c) (coreAt (w .machine) e) (view h c) (view h e) (a .each-core c) (a .each-core e))
@@ -50,67 +61,65 @@ module _ {o : ℕ} {w : World} {h : List Deed} (a : Agree o w h) (c : ℕ) (ok :
 
   -- what the commit leaves of core e
   left-at : (e : ℕ) (q : Bool) → eqb c e ≡ q
-      → CoreAgrees (cond q (Rule.over (coreAt (w .machine) e)) (Rule.struck (coreAt (w .machine) c .writes) (coreAt (w .machine) e)))
-      (view (commits c (coreAt (w .machine) c .aborts) ∷ h) e)
+      → CoreAgrees (cond q (Rule.over (coreAt (w .machine) e)) (Rule.struck ws (coreAt (w .machine) e)))
+      (view (commits c n ∷ h) e)
   unfolding Rule.struck
   left-at e true p =
-      agrees-idle (Rule.over (coreAt (w .machine) e)) (view (commits c (coreAt (w .machine) c .aborts) ∷ h) e) refl refl refl refl
-      (subst (λ (i : ℕ). Over (view (commits c (coreAt (w .machine) c .aborts) ∷ h) i)) (eqb-true c e p) (view-commits h c (coreAt (w .machine) c .aborts)))
+      agrees-idle (Rule.over (coreAt (w .machine) e)) (view (commits c n ∷ h) e) refl refl refl refl
+      (subst (λ (i : ℕ). Over (view (commits c n ∷ h) i)) (eqb-true c e p) (view-commits h c n))
   left-at e false p =
-      go (coreAt (w .machine) e .active && meeting (coreAt (w .machine) c .writes) (dataSet (coreAt (w .machine) e))) (record-strikes e p)
+      go (coreAt (w .machine) e .active && meeting ws (dataSet (coreAt (w .machine) e))) (record-strikes e p)
     where
-      go : (q : Bool) → q ≡ strikes (commits c (coreAt (w .machine) c .aborts)) h e
-          → CoreAgrees (cond q (Rule.aborted (coreAt (w .machine) e)) (coreAt (w .machine) e)) (view (commits c (coreAt (w .machine) c .aborts) ∷ h) e)
+      go : (q : Bool) → q ≡ strikes (commits c n) h e
+          → CoreAgrees (cond q (Rule.aborted (coreAt (w .machine) e)) (coreAt (w .machine) e)) (view (commits c n ∷ h) e)
       go true s =
-          rw (view-struck h c (coreAt (w .machine) c .aborts) e p (sym s))
-          (agrees-struck (coreAt (w .machine) e) (view h e) (struck-unmarked e (coreAt (w .machine) c .aborts) (sym s)) (a .each-core e))
-      go false s = rw (view-other (commits c (coreAt (w .machine) c .aborts)) h e p (sym s)) (a .each-core e)
+          rw (view-struck h c n e p (sym s))
+          (agrees-struck (coreAt (w .machine) e) (view h e) (struck-unmarked e n (sym s)) (a .each-core e))
+      go false s = rw (view-other (commits c n) h e p (sym s)) (a .each-core e)
 
   -- every place for a core, also those past the sixteenth, of which nothing is left to say
   cores-left : (e : ℕ)
-      → CoreAgrees (getD (Rule.cleared (coreAt (w .machine) c .writes) c 0 (w .machine .core)) e noCore)
-      (view (commits c (coreAt (w .machine) c .aborts) ∷ h) e)
+      → CoreAgrees (getD (Rule.cleared ws c 0 (w .machine .core)) e noCore)
+      (view (commits c n ∷ h) e)
   cores-left e = go (ltb e 16) refl
     where
       go : (q : Bool) → ltb e 16 ≡ q
-          → CoreAgrees (getD (Rule.cleared (coreAt (w .machine) c .writes) c 0 (w .machine .core)) e noCore)
-          (view (commits c (coreAt (w .machine) c .aborts) ∷ h) e)
+          → CoreAgrees (getD (Rule.cleared ws c 0 (w .machine .core)) e noCore)
+          (view (commits c n ∷ h) e)
       go true q =
-          let here = cleared-at (coreAt (w .machine) c .writes) c 0 e (w .machine .core) (omega (arith, ltb-true e 16 q, a .cores-long)) in
-          rw (here, zero-add e, eqb-sym e c) (left-at e (eqb c e) refl)
+          let here = cleared-at ws c (w .machine .core) e (omega (arith, ltb-true e 16 q, a .cores-long)) in
+          rw (here, eqb-sym e c) (left-at e (eqb c e) refl)
       go false q =
           let past : getD (w .machine .core) e noCore ≡ noCore = List·getD-eq-default (w .machine .core) noCore (omega (arith, ltb-false e 16 q, a .cores-long)) in
-          let past′ : getD (Rule.cleared (coreAt (w .machine) c .writes) c 0 (w .machine .core)) e noCore ≡ noCore =
-          List·getD-eq-default (Rule.cleared (coreAt (w .machine) c .writes) c 0 (w .machine .core)) noCore
-          (omega (arith, ltb-false e 16 q, a .cores-long, cleared-long (coreAt (w .machine) c .writes) c 0 (w .machine .core))) in
+          let past′ : getD (Rule.cleared ws c 0 (w .machine .core)) e noCore ≡ noCore =
+          List·getD-eq-default (Rule.cleared ws c 0 (w .machine .core)) noCore
+          (omega (arith, ltb-false e 16 q, a .cores-long, cleared-long ws c 0 (w .machine .core))) in
           let other : eqb c e ≡ false = ne-eqb c e (λ s. omega (arith, ltb-false e 16 q, inside a (ok .core-ok))) in
           let idle : inProgress h e ≡ false = sym (a .each-core e .same-going) ∙ ap (λ (k : Core). k .active) past in
-          rw (past′, view-other (commits c (coreAt (w .machine) c .aborts)) h e other (rw (other, idle) refl)) (rw past at (a .each-core e))
+          rw (past′, view-other (commits c n) h e other (rw (other, idle) refl)) (rw past at (a .each-core e))
 
   -- the cards are the serial ones
-  cards-left : Rule.changed (coreAt (w .machine) c .writes) (λ d v. getD (w .pending) (c * w .machine .objects + d) 0) 0 (w .committed)
+  cards-left : Rule.changed ws moved 0 (w .committed)
       ≡ effect (attempt h c) (serial o h)
   unfolding Rule.valueRead
   cards-left =
-      ext-getD 0 (Rule.changed (coreAt (w .machine) c .writes) (λ d v. getD (w .pending) (c * w .machine .objects + d) 0) 0 (w .committed)) (effect (attempt h c) (serial o h))
-      (changed-long (coreAt (w .machine) c .writes) 0 (λ d v. getD (w .pending) (c * w .machine .objects + d) 0) (w .committed)
+      ext-getD 0 (Rule.changed ws moved 0 (w .committed)) (effect (attempt h c) (serial o h))
+      (changed-long ws moved 0 (w .committed)
       ∙ ap length (a .same-committed) ∙ sym (effect-long (attempt h c) (serial o h)))
       (λ d l. at d (omega (arith, simp changed-long at l)))
     where
       at : (d : ℕ) → d < length (w .committed)
-          → getD (Rule.changed (coreAt (w .machine) c .writes) (λ e v. getD (w .pending) (c * w .machine .objects + e) 0) 0 (w .committed)) d 0
+          → getD (Rule.changed ws moved 0 (w .committed)) d 0
           ≡ getD (effect (attempt h c) (serial o h)) d 0
       at d l =
-          changed-at (coreAt (w .machine) c .writes) 0 d (λ e v. getD (w .pending) (c * w .machine .objects + e) 0) (w .committed) l
-          ∙ ap (λ (i : ℕ). cond (has (coreAt (w .machine) c .writes) i) (getD (w .pending) (c * w .machine .objects + i) 0) (getD (w .committed) d 0)) (zero-add d)
+          changed-at ws moved (w .committed) d l
           ∙ read-alone a c d ok (rw (← ok .committed-long) l)
 
   -- the versions count the commits that wrote
   versions-left : (d : ℕ) → d < o
-      → getD (Rule.changed (coreAt (w .machine) c .writes) (λ e v. v + 1) 0 (w .machine .versions)) d 0 ≡ cond (wrote (attempt h c) d) 1 0 + version h d
+      → getD (Rule.changed ws (λ e v. v + 1) 0 (w .machine .versions)) d 0 ≡ cond (wrote (attempt h c) d) 1 0 + version h d
   versions-left d l =
-      changed-at (coreAt (w .machine) c .writes) 0 d (λ e v. v + 1) (w .machine .versions) (omega (arith, a .versions-long, a .objects-few))
-      ∙ ap (λ (i : ℕ). cond (has (coreAt (w .machine) c .writes) i) (getD (w .machine .versions) d 0 + 1) (getD (w .machine .versions) d 0)) (zero-add d)
+      changed-at ws (λ e v. v + 1) (w .machine .versions) d (omega (arith, a .versions-long, a .objects-few))
       ∙ ap (λ (q : Bool). cond q (getD (w .machine .versions) d 0 + 1) (getD (w .machine .versions) d 0)) (a .each-core c .same-writes d)
       ∙ go (wrote (attempt h c) d)
     where
@@ -118,15 +127,15 @@ module _ {o : ℕ} {w : World} {h : List Deed} (a : Agree o w h) (c : ℕ) (ok :
       go true = omega (arith, a .same-versions d l)
       go false = omega (arith, a .same-versions d l)
 
-  pub step-commits : Agree o (Rule.through w c .world) (commits c (coreAt (w .machine) c .aborts) ∷ h)
+  pub step-commits : Agree o (Rule.through w c .world) (commits c n ∷ h)
   unfolding Rule.through births serial version wrote any
   step-commits =
       record {
-        cores-long = cleared-long (coreAt (w .machine) c .writes) c 0 (w .machine .core) ∙ a .cores-long;
+        cores-long = cleared-long ws c 0 (w .machine .core) ∙ a .cores-long;
         cores-few = a .cores-few;
         objects-few = a .objects-few;
         same-objects = a .same-objects;
-        versions-long = changed-long (coreAt (w .machine) c .writes) 0 (λ d v. v + 1) (w .machine .versions) ∙ a .versions-long;
+        versions-long = changed-long ws (λ d v. v + 1) 0 (w .machine .versions) ∙ a .versions-long;
         same-tickets = a .same-tickets ∙ sym (zero-add (births h));
         each-core = cores-left;
         same-committed = cards-left;
@@ -135,23 +144,23 @@ module _ {o : ℕ} {w : World} {h : List Deed} (a : Agree o w h) (c : ℕ) (ok :
       }
     where
       x : Deed
-      x = commits c (coreAt (w .machine) c .aborts)
+      x = commits c n
 
       words : (e d : ℕ) → d < o → (q : Bool) → eqb c e ≡ q → wrote (attempt (x ∷ h) e) d ≡ true → getD (w .pending) (e * o + d) 0 ≡ lastWrite (attempt (x ∷ h) e) d
       words e d l true q t =
-          absurd (true≢false (sym (rw (view-commits h c (coreAt (w .machine) c .aborts) .1) at (rw (← eqb-true c e q) at t))))
+          absurd (true≢false (sym (rw (view-commits h c n .1) at (rw (← eqb-true c e q) at t))))
       words e d l false q t = go (strikes x h e) refl
         where
           go : (s : Bool) → strikes x h e ≡ s → getD (w .pending) (e * o + d) 0 ≡ lastWrite (attempt (x ∷ h) e) d
           go true s =
-              let void : attempt (x ∷ h) e ≡ [] = ap (λ (v : View). v .tried) (view-struck h c (coreAt (w .machine) c .aborts) e q s) in
+              let void : attempt (x ∷ h) e ≡ [] = ap (λ (v : View). v .tried) (view-struck h c n e q s) in
               absurd (true≢false (sym (rw void at t)))
           go false s =
               let same : attempt (x ∷ h) e ≡ attempt h e = ap (λ (v : View). v .tried) (view-other x h e q s) in
               rw same (a .same-pending e d l (rw same at t))
 
   -- nobody ahead is in conflict, so whoever is struck is later
-  pub finds-commits : coreAt (w .machine) c .zombie ≡ false → Rule.blocked (w .machine) c ≡ false → Committing h c (coreAt (w .machine) c .aborts)
+  pub finds-commits : coreAt (w .machine) c .zombie ≡ false → Rule.blocked (w .machine) c ≡ false → Committing h c n
   unfolding Rule.blocked Rule.contender
   finds-commits z free =
       record {
@@ -170,7 +179,7 @@ module _ {o : ℕ} {w : World} {h : List Deed} (a : Agree o w h) (c : ℕ) (ok :
               absurd (true≢false (sym p ∙ ap (λ (k : Core). k .active) (List·getD-eq-default (w .machine .core) noCore (omega (arith, ltb-false b 16 q, a .cores-long)))))
 
       -- a conflicting transaction has no smaller ticket
-      not-ahead : (b : ℕ) → coreAt (w .machine) b .active ≡ true → meeting (coreAt (w .machine) c .writes) (dataSet (coreAt (w .machine) b)) ≡ true
+      not-ahead : (b : ℕ) → coreAt (w .machine) b .active ≡ true → meeting ws (dataSet (coreAt (w .machine) b)) ≡ true
           → ltb (coreAt (w .machine) b .ticket) (coreAt (w .machine) c .ticket) ≡ false
       not-ahead b p m = go (ltb (coreAt (w .machine) b .ticket) (coreAt (w .machine) c .ticket)) refl
         where
@@ -178,13 +187,13 @@ module _ {o : ℕ} {w : World} {h : List Deed} (a : Agree o w h) (c : ℕ) (ok :
           go true q = sym (one-some 16 (Rule.contender (w .machine) c) b (few b p) (ap₂ _&&_ (ap₂ _&&_ p q) (ap (λ (x : Bool). x || meeting (coreAt (w .machine) b .writes) (dataSet (coreAt (w .machine) c))) m))) ∙ free
           go false q = refl
 
-      later : (b : ℕ) → strikes (commits c (coreAt (w .machine) c .aborts)) h b ≡ true → born h c < born h b
+      later : (b : ℕ) → strikes (commits c n) h b ≡ true → born h c < born h b
       later b s =
           let other : eqb c b ≡ false = not-true (eqb c b) (both-left (not (eqb c b)) (inProgress h b) (both-left (not (eqb c b) && inProgress h b) _ s)) in
           let going : inProgress h b ≡ true = both-right (not (eqb c b)) (inProgress h b) (both-left (not (eqb c b) && inProgress h b) _ s) in
           let here : inProgress h c ≡ true = sym (a .each-core c .same-going) ∙ ok .active in
           let active : coreAt (w .machine) b .active ≡ true = a .each-core b .same-going ∙ going in
-          let meets : meeting (coreAt (w .machine) c .writes) (dataSet (coreAt (w .machine) b)) ≡ true =
+          let meets : meeting ws (dataSet (coreAt (w .machine) b)) ≡ true =
           both-right (coreAt (w .machine) b .active) _ (record-strikes b other ∙ s) in
           let order : ltb (coreAt (w .machine) b .ticket) (coreAt (w .machine) c .ticket) ≡ false = not-ahead b active meets in
           let apart = born-apart h c b here going other in

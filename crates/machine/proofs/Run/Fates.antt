@@ -13,7 +13,7 @@ use Rattle.machine.specs.Record.{tally}
 use Rattle.machine.specs.Words.{Deed, begins, reads, writes, waits, commits, told, gives, other, beginsOn, endsOn, inProgress, births, born, attempt}
 use Rattle.machine.specs.Rounds.{Rounds, Fate, in-progress, committed, given-up, fate, fateAfter, among, AtMost}
 use Rattle.machine.proofs.Run.Orderly.{Orderly}
-use Rattle.machine.proofs.Run.Tally.{tally-but-one}
+use Rattle.machine.proofs.Tally.{tally-but-one}
 use Rattle.machine.proofs.Run.Births.{Going, begun, kept, going, going-on, going-not-begun, births-begun, births-late, born-begun, born-kept}
 use Rattle.machine.proofs.Run.RoundsBound.{Moment, Steady, among-going, out-of-rounds}
 

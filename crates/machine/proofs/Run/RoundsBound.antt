@@ -14,7 +14,7 @@ use Rattle.machine.specs.Record.{tally}
 use Rattle.machine.specs.Words.{Deed, endsOn, actsOn, inProgress, births, born, any, attempt}
 use Rattle.machine.specs.Rounds.{Rounds, no-round, between, one-round, among, isRound}
 use Rattle.machine.proofs.Run.Orderly.{Orderly}
-use Rattle.machine.proofs.Run.Tally.{tally-mono, tally-less, tally-some}
+use Rattle.machine.proofs.Tally.{tally-more, tally-less, tally-some}
 use Rattle.machine.proofs.Run.Births.{clash, ended, births-grow, born-below, core-below, older-kept}
 use Rattle.machine.proofs.Run.Eldest.{Eldest, some-eldest, spent, spent-at-most, Acted, ends, spends, eldest-kept, eldest-acts, eldest-rests}
 
@@ -91,7 +91,7 @@ module _ (o width t c : ℕ) where
       fewer = among-kept t x h (has-begun h (now .moment))
 
       no-more : width * tally 16 (among t (x ∷ h)) ≤ width * tally 16 (among t h)
-      no-more = mul-le-mul-left width (tally-mono 16 (among t (x ∷ h)) (among t h) fewer)
+      no-more = mul-le-mul-left width (tally-more 16 (among t (x ∷ h)) (among t h) (λ b l. fewer b))
 
       -- the eldest ends: the others have less left, by more than it had spent
       after-end : endsOn x u ≡ true → (v : ℕ) × Standing (suc n) (x ∷ h) v
@@ -99,7 +99,7 @@ module _ (o width t c : ℕ) where
           let (v, old) = some-eldest o (x ∷ h) c (next .orderly) (next .going) in
           let is-core = core-below o h u (now .moment .orderly) (now .eldest .going) in
           let here = eldest-among h u (now .moment) (now .eldest) in
-          let one-less = tally-less 16 (among t (x ∷ h)) (among t h) u fewer is-core (ended-not-among t x h u e) here in
+          let one-less = tally-less 16 (among t (x ∷ h)) (among t h) u is-core (ended-not-among t x h u e) here (λ b l. fewer b) in
           let saved = mul-le-mul-left width one-less in
           let split = mul-suc width (tally 16 (among t (x ∷ h))) in
           (v, record { moment = next; eldest = old; bound = omega (arith, now .bound, eldest-spent h u (now .moment) (now .eldest)) })

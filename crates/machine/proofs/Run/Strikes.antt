@@ -11,7 +11,7 @@ use Rattle.objset.proofs.Laws.{both-left, both-right}
 use Rattle.machine.specs.Record.{tally}
 use Rattle.machine.specs.Words.{Deed, begins, reads, writes, waits, commits, told, gives, other, beginsOn, endsOn, inProgress, births, born, ahead, strikes, struck}
 use Rattle.machine.proofs.Run.Orderly.{Orderly, Allowed}
-use Rattle.machine.proofs.Run.Tally.{tally-mono, tally-less}
+use Rattle.machine.proofs.Tally.{tally-more, tally-less}
 use Rattle.machine.proofs.Run.Births.{clash, Going, begun, kept, going, ended, born-begun, born-kept, born-below, older-kept}
 
 -- ---- who strikes
@@ -82,8 +82,8 @@ struck-and-earlier o (x ∷ h) c a p = go (going x h c p) (struck-and-earlier o 
       where
         all-earlier : tally 16 (before (births h) (x ∷ h)) ≤ tally 16 (inProgress h)
         all-earlier =
-            tally-mono 16 (before (births h) (x ∷ h)) (inProgress h)
-            (λ b q. both-left (inProgress h b) (ltb (born h b) (births h)) (before-kept x h (births h) (omega arith) b q))
+            tally-more 16 (before (births h) (x ∷ h)) (inProgress h)
+            (λ b l q. both-left (inProgress h b) (ltb (born h b) (births h)) (before-kept x h (births h) (omega arith) b q))
     go (kept e f q) rest = rw (struck-kept x h c e, ahead-kept x h c e, born-kept x h c e) (by-strike (strikes x h c) refl (rest q))
       where
         fewer : (b : ℕ) → before (born h c) (x ∷ h) b ≡ true → before (born h c) h b ≡ true
@@ -95,8 +95,8 @@ struck-and-earlier o (x ∷ h) c a p = go (going x h c p) (struck-and-earlier o 
             let k = striker o x h c s (a .0) in
             let gone : before (born h c) (x ∷ h) (k .by) ≡ false = rw (ended x h (k .by) (k .ends)) in
             let here = is-before (born h c) h (k .by) (k .going) (k .earlier) in
-            omega (arith, tally-less 16 (before (born h c) (x ∷ h)) (before (born h c) h) (k .by) fewer (k .is-core) gone here)
-        by-strike false s r = omega (arith, tally-mono 16 (before (born h c) (x ∷ h)) (before (born h c) h) fewer)
+            omega (arith, tally-less 16 (before (born h c) (x ∷ h)) (before (born h c) h) (k .by) (k .is-core) gone here (λ b l. fewer b))
+        by-strike false s r = omega (arith, tally-more 16 (before (born h c) (x ∷ h)) (before (born h c) h) (λ b l. fewer b))
 
 pub struck-at-most : (o : ℕ) (h : List Deed) (c : ℕ) → Orderly o h → inProgress h c ≡ true → struck h c ≤ ahead h c
 struck-at-most o h c a p = omega (arith, struck-and-earlier o h c a p)

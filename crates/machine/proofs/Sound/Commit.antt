@@ -17,7 +17,7 @@ use Rattle.machine.specs.Rule.{contender, blocked, struck, over, cleared
 use Rattle.machine.proofs.Sound.Turns.{Turns, turns-left}
 use Rattle.machine.proofs.Sound.Standing.{Tidy, Standing, Formed-core, Formed}
 use Rattle.machine.proofs.Sound.Cores.{idle-formed, over-tidy, struck-active, struck-ticket, struck-count, struck-aborts, struck-tidy, struck-formed}
-use Rattle.machine.proofs.Sound.Entries.{cleared-at, cleared-long, changed-at, changed-long}
+use Rattle.machine.proofs.Entries.{cleared-at, cleared-long, changed-at, changed-long}
 use Rattle.machine.proofs.Sound.OneCore.{Whole}
 
 -- the transaction of core c has no contender, so each one that its commit strikes has a later ticket

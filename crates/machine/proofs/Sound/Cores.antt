@@ -59,8 +59,15 @@ idle-tidy objects jobs n few unused =
 pub idle-list : (k : Core) (jobs : List Job) (n : ℕ) → k .active ≡ false → Clear k → withList k jobs n ≡ idle jobs n
 idle-list k jobs n off clear =
     λ i. record {
-      jobs = jobs; count = n; active = off i; owner = clear .no-owner i; ticket = clear .no-ticket i; aborts = clear .no-aborts i;
-      zombie = clear .no-mark i; reads = clear .no-reads i; writes = clear .no-writes i
+      jobs = jobs;
+      count = n;
+      active = off i;
+      owner = clear .no-owner i;
+      ticket = clear .no-ticket i;
+      aborts = clear .no-aborts i;
+      zombie = clear .no-mark i;
+      reads = clear .no-reads i;
+      writes = clear .no-writes i;
     }
 
 pub idle-formed : (jobs : List Job) (n : ℕ) → length jobs ≡ 8 → Formed-core (idle jobs n)

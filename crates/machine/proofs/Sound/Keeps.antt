@@ -20,11 +20,11 @@ use Rattle.machine.specs.Sound.{sound}
 use Rattle.machine.specs.Answers.{kind}
 use Rattle.machine.specs.Rule.{World, slot, withJob, withSets, without, released, begun, told, valued, written, through, ended, finished, setup, Call, Result, first, unlessLent, misfit}
 use Rattle.machine.proofs.Case.{Case, is-refused, is-released, is-begun, is-told, is-valued, is-written, is-waiting, is-through, is-ended, is-finished}
-use Rattle.machine.proofs.Sound.Tally.{tally-within}
+use Rattle.machine.proofs.Tally.{tally-within}
 use Rattle.machine.proofs.Sound.Standing.{Tidy, Formed-core, Formed, standing, is-sound}
 use Rattle.machine.proofs.Sound.Jobs.{least-listed}
 use Rattle.machine.proofs.Sound.Cores.{unmarked, idle-list, idle-tidy, idle-formed, released-tidy, released-formed, told-tidy, told-formed, sets-tidy, sets-formed, finished-tidy, finished-formed, added-within}
-use Rattle.machine.proofs.Sound.Entries.{changed-long}
+use Rattle.machine.proofs.Entries.{changed-long}
 use Rattle.machine.proofs.Sound.OneCore.{Whole, inside, put-whole, begun-whole, ended-whole}
 use Rattle.machine.proofs.Sound.Commit.{through-whole}
 

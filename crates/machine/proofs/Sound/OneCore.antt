@@ -13,7 +13,7 @@ use Rattle.machine.specs.Rule.{begun, over, ended}
 use Rattle.machine.proofs.Sound.Turns.{Turns, turns-same, turns-joined, turns-left}
 use Rattle.machine.proofs.Sound.Standing.{Tidy, Standing, Formed-core, Formed}
 use Rattle.machine.proofs.Sound.Cores.{withTransaction, idle-formed, begun-tidy, begun-formed, over-tidy}
-use Rattle.machine.proofs.Sound.Entries.{put-each}
+use Rattle.machine.proofs.Entries.{put-each}
 
 -- a record of the right shape that keeps the standing rules
 pub record Whole (m : Machine) : Type 0 where

@@ -9,7 +9,8 @@ use lib.Dec.{eqb, ltb}
 use borrow.Author.Tests.{ltb-true, le-ltb, eqb-true, eqb-false}
 use Rattle.objset.proofs.Laws.{both-left, both-right}
 use Rattle.machine.specs.Record.{tally}
-use Rattle.machine.proofs.Sound.Tally.{tally-same, tally-more, tally-one-more, tally-less, tally-spared}
+use Rattle.machine.proofs.Entries.{here-or-else}
+use Rattle.machine.proofs.Tally.{tally-same, tally-more, tally-one-more, tally-less, tally-spared}
 
 -- core c has a transaction in progress with a ticket smaller than x
 abbrev pub sooner : (ℕ → Bool) → (ℕ → ℕ) → ℕ → ℕ → Bool
@@ -45,14 +46,6 @@ turns-same {cores} {tickets} {past} {a} {a′} {t} {t′} {b} {b′} sa st sb s 
             tally-same 16 (sooner a′ t′ (t′ c)) (sooner a t (t c)) (λ i m. ap₂ _&&_ (sa i m) (ap₂ ltb (st i m) (st c l))),
           );
     }
-
--- what holds of core c, and of core e where that is another, holds of core e
-pub here-or-else : (P : ℕ → Type 0) (c e : ℕ) → P c → ((e ≡ c → ⊥) → P e) → P e
-here-or-else P c e here there = go (eqb e c) refl
-  where
-    go : (q : Bool) → eqb e c ≡ q → P e
-    go true p = subst P (sym (eqb-true e c p)) here
-    go false p = there (eqb-false e c p)
 
 -- false on the left
 and-false : (x y : Bool) → x ≡ false → (x && y) ≡ false

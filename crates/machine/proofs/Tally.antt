@@ -98,3 +98,25 @@ tally-spared n j f c l s p h =
       tally-with-one n f c l p,
       tally-within n j (withOne f c) (λ i m r. rw (h i m r, ne-eqb i c (λ d. omega arith))),
     )
+
+at-most-one : (a : Bool) → cond a 1 0 ≤ 1
+at-most-one true = omega arith
+at-most-one false = omega arith
+
+-- a test that lets all pass but one, which counts at most once
+pub tally-but-one : (n : ℕ) (f g : ℕ → Bool) (c : ℕ) → ((i : ℕ) → (i ≡ c → ⊥) → f i ≡ true → g i ≡ true) → tally n f ≤ suc (tally n g)
+unfolding tally
+tally-but-one zero f g c h = omega arith
+tally-but-one (suc n) f g c h = go (eqb n c) refl (f n) refl (g n) refl (tally-but-one n f g c h)
+  where
+    go : (e : Bool) → eqb n c ≡ e → (a : Bool) → f n ≡ a → (b : Bool) → g n ≡ b → tally n f ≤ suc (tally n g)
+        → cond a 1 0 + tally n f ≤ suc (cond b 1 0 + tally n g)
+    go true e a p b q rest =
+        omega (arith, tally-more n f g (λ i l. h i (λ r. omega (arith, eqb-true n c e))), at-most-one a)
+    go false e true p true q rest = omega arith
+    go false e true p false q rest = absurd (true≢false (sym (h n (eqb-false n c e) p) ∙ q))
+    go false e false p b q rest = omega arith
+
+-- one below n that passes is counted
+pub tally-some : (n : ℕ) (f : ℕ → Bool) (c : ℕ) → c < n → f c ≡ true → 0 < tally n f
+tally-some n f c l e = omega (arith, tally-less n (λ i. false) f c l refl e (λ i m p. absurd (true≢false (sym p))))

@@ -1,18 +1,26 @@
 -- The entries of the lists that calls hand back: one core put in place, the cores after a commit, the cards that it wrote.
 -- Assumes nothing.
 use mathlib.Core.Path.{_≡_, refl, sym, ap, subst, _∙_}
-use mathlib.Core.Bool.{cond}
+use mathlib.Core.Bool.{Bool, true, false, cond}
 use mathlib.Core.List.{List, [], _∷_}
 use Prim.Native.Nat.{ℕ, zero, suc, _+_, _<_}
 use native.Mathlib.Omega.{arith}
 use lib.Dec.{eqb}
+use borrow.Author.Tests.{eqb-true, eqb-false}
 use lib.ListN.{getD, set, length}
 use lib.Seq.{getD-set-same, getD-set-other}
 use Rattle.objset.specs.Objset.{has}
 use Rattle.machine.specs.declared.Core.{Core}
 use Rattle.machine.specs.Record.{noCore}
 use Rattle.machine.specs.Rule.{struck, over, cleared, changed}
-use Rattle.machine.proofs.Sound.Turns.{here-or-else}
+
+-- what holds of core c, and of core e where that is another, holds of core e
+pub here-or-else : (P : ℕ → Type 0) (c e : ℕ) → P c → ((e ≡ c → ⊥) → P e) → P e
+here-or-else P c e here there = go (eqb e c) refl
+  where
+    go : (q : Bool) → eqb e c ≡ q → P e
+    go true p = subst P (sym (eqb-true e c p)) here
+    go false p = there (eqb-false e c p)
 
 -- what holds of the core put at place c and of every core before the call holds of every core after it
 pub put-each : (P : ℕ → Core → Type 0) (cores : List Core) (n c : ℕ) (k : Core) → c < length cores → P c k
