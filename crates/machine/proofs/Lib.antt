@@ -1,5 +1,8 @@
 mod Tally
 mod Entries
+mod JobLaws
+mod CallLaws
+mod Facts
 pub mod Case
 pub mod CanFollow
 pub mod Sound

@@ -1,0 +1,46 @@
+-- The laws of `least`, one for each turn of the search for it, and of `running`. Assumes nothing.
+use mathlib.Core.Path.{_≡_, refl, sym, ap, _∙_}
+use mathlib.Core.Bool.{Bool, true, false, cond}
+use mathlib.Core.List.{List}
+use Prim.Native.Nat.{ℕ, zero, suc, _+_, _≤_, _<_, max}
+use native.Mathlib.Numerals.{add-one}
+use native.Mathlib.Omega.{arith}
+use lib.Dec.{ltb}
+use lib.ListN.{getD}
+use borrow.Author.Tests.{lt-ltb, le-ltb}
+use Rattle.machine.specs.declared.Core.{Core}
+use Rattle.machine.specs.declared.Job.{Job}
+use Rattle.machine.specs.Record.{noJob, least, running}
+
+pub least-one : (jobs : List Job) → _≡_ {A = ℕ} (least jobs 1) 0
+unfolding least
+least-one jobs = go (ltb (getD jobs 0 noJob .deadline) (getD jobs 0 noJob .deadline))
+  where
+    go : (b : Bool) → _≡_ {A = ℕ} (cond b 0 0) 0
+    go true = refl
+    go false = refl
+
+-- a job of smaller deadline takes the place of the least so far
+pub least-taken : (jobs : List Job) (i : ℕ) → getD jobs i noJob .deadline < getD jobs (least jobs i) noJob .deadline → least jobs (i + 1) ≡ i
+unfolding least
+least-taken jobs i h = ap (least jobs) (add-one i) ∙ rw (lt-ltb _ _ h) refl
+
+-- any other leaves it
+pub least-left : (jobs : List Job) (i : ℕ) → getD jobs (least jobs i) noJob .deadline ≤ getD jobs i noJob .deadline → least jobs (i + 1) ≡ least jobs i
+unfolding least
+least-left jobs i h = ap (least jobs) (add-one i) ∙ rw (le-ltb _ _ h) refl
+
+-- the search ends at n, or at 1 where there is no job
+pub least-found : (jobs : List Job) (n i best : ℕ) → n ≤ i → i ≤ max n 1 → 0 < i → best ≡ least jobs i → best ≡ least jobs n
+unfolding least
+least-found jobs zero i best p q r e = let one : i ≡ 1 = omega arith in e ∙ ap (least jobs) one ∙ least-one jobs
+least-found jobs (suc n) i best p q r e = let all : i ≡ suc n = omega arith in e ∙ ap (least jobs) all
+
+-- the running job, by whether a transaction is in progress
+pub running-owner : (k : Core) → k .active ≡ true → k .owner ≡ running k
+unfolding running
+running-owner k on = sym (ap (λ (b : Bool). cond b (k .owner) (least (k .jobs) (k .count))) on)
+
+pub running-least : (k : Core) → k .active ≡ false → least (k .jobs) (k .count) ≡ running k
+unfolding running
+running-least k off = sym (ap (λ (b : Bool). cond b (k .owner) (least (k .jobs) (k .count))) off)
