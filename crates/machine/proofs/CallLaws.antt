@@ -3,13 +3,13 @@ use mathlib.Core.Path.{_≡_, refl, sym, ap, _∙_}
 use mathlib.Core.Bool.{Bool, true, false, cond, not}
 use mathlib.Core.List.{List, [], _∷_}
 use Prim.Native.Nat.{ℕ, suc, _≤_, _<_}
-use borrow.Author.Tests.{lt-ltb, le-ltb}
+use borrow.Author.Tests.{lt-ltb, le-ltb, le-leb, lt-leb, eq-eqb, ne-eqb}
 use Rattle.machine.specs.declared.Machine.{Machine}
 use Rattle.machine.specs.declared.Outcome.{Outcome}
 use Rattle.machine.specs.declared.Answer.the-variants.{Refused}
 use Rattle.machine.specs.Record.{coreAt}
 use Rattle.machine.specs.Sound.{sound}
-use Rattle.machine.specs.Rule.{first, unless, unsound, noSuchCore, inProgress, ended, giveUp}
+use Rattle.machine.specs.Rule.{first, unless, unsound, noSuchCore, jobless, inProgress, ticketsSpent, begun, begin, ended, giveUp}
 
 -- ---- the first condition that holds
 
@@ -44,6 +44,37 @@ a-core m c h = ap not (lt-ltb c (m .cores) h)
 
 pub no-core : (m : Machine) (c : ℕ) → m .cores ≤ c → noSuchCore m c ≡ true
 no-core m c h = ap not (le-ltb c (m .cores) h)
+
+-- ---- begin
+
+module _ (m : Machine) (c : ℕ) (s : sound m ≡ true) where
+  pub begin-no-core : m .cores ≤ c → record { answer = Refused 4; machine = m } ≡ begin m c
+  unfolding begin
+  begin-no-core h = refused m _ 3 _ (skips _ _ _ (is-sound m s) (hits _ _ _ (no-core m c h)))
+
+  module _ (h : c < m .cores) where
+    pub begin-no-job : coreAt m c .count ≡ 0 → record { answer = Refused 7; machine = m } ≡ begin m c
+    unfolding begin
+    begin-no-job e = refused m _ 6 _ (skips _ _ _ (is-sound m s) (skips _ _ _ (a-core m c h) (hits _ _ _ (eq-eqb _ 0 e))))
+
+    module _ (job : coreAt m c .count ≡ 0 → ⊥) where
+      pub begin-open : coreAt m c .active ≡ true → record { answer = Refused 8; machine = m } ≡ begin m c
+      unfolding begin
+      begin-open on =
+          refused m _ 7 _ (skips _ _ _ (is-sound m s) (skips _ _ _ (a-core m c h) (skips _ _ _ (ne-eqb _ 0 job) (hits _ _ _ on))))
+
+      pub begin-spent : coreAt m c .active ≡ false → 4294967295 ≤ m .tickets → record { answer = Refused 10; machine = m } ≡ begin m c
+      unfolding begin
+      begin-spent off all =
+          refused m _ 9 _
+          (skips _ _ _ (is-sound m s) (skips _ _ _ (a-core m c h) (skips _ _ _ (ne-eqb _ 0 job) (skips _ _ _ off (hits _ _ _ (le-leb _ _ all))))))
+
+      pub begin-begins : coreAt m c .active ≡ false → m .tickets < 4294967295 → begun m c ≡ begin m c
+      unfolding begin
+      begin-begins off few =
+          accepted m _ _
+          (skips _ _ _ (is-sound m s)
+          (skips _ _ _ (a-core m c h) (skips _ _ _ (ne-eqb _ 0 job) (skips _ _ _ off (skips _ _ _ (lt-leb _ _ few) none-holds)))))
 
 -- ---- give up
 

@@ -26,6 +26,14 @@ pub record Result : Type 0 where
   pub answer : Answer
   pub world : World
 
+-- a record with the tables that are lent beside it
+abbrev pub lent : Machine → List ℕ → List ℕ → World
+lent m committed pending = record { machine = m; committed = committed; pending = pending }
+
+-- what a call handed back, with the tables as it left them
+abbrev pub left : Outcome → List ℕ → List ℕ → Result
+left o committed pending = record { answer = o .answer; world = lent (o .machine) committed pending }
+
 abbrev pub withMachine : World → Machine → World
 withMachine w m = record { machine = m; committed = w .committed; pending = w .pending }
 

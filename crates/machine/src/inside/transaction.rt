@@ -3,10 +3,11 @@ use crate::Answer;
 use crate::Core;
 use crate::Machine;
 use crate::Outcome;
+use crate::inside::jobs::running_of;
 ghost use mathlib.Core.Path.{_≡_};
 ghost use mathlib.Core.Bool.{true};
 ghost use Rattle.machine.specs.Sound.{sound};
-ghost use Rattle.machine.specs.Rule.{over, giveUp};
+ghost use Rattle.machine.specs.Rule.{over, begin as beginRule, giveUp};
 
 // A core with the jobs of k and no transaction.
 fn without_transaction(k: Core) -> Core
@@ -24,6 +25,44 @@ fn without_transaction(k: Core) -> Core
         reads: 0,
         writes: 0,
     }
+}
+
+// The running job's transaction gets the next ticket: 4 no such core, 7 the core has no job, 8 a transaction is in progress,
+// 10 every ticket is given.
+pub fn begin(m: Machine, core: u32) -> Outcome
+    requires { ⌜ sound m ≡ true ⌝ }
+    ensures { λ r. ⌜ r ≡ beginRule m core ⌝ }
+{
+    if m.cores as u32 <= core {
+        return Outcome { answer: Answer::Refused(4), machine: m };
+    }
+    let c = core as usize;
+    let k = m.core[c];
+    if k.count == 0 {
+        return Outcome { answer: Answer::Refused(7), machine: m };
+    }
+    if k.active {
+        return Outcome { answer: Answer::Refused(8), machine: m };
+    }
+    let ticket = m.tickets;
+    if 4294967295 <= ticket {
+        return Outcome { answer: Answer::Refused(10), machine: m };
+    }
+    let jobs = k.jobs;
+    let mut n = m;
+    n.tickets = ticket + 1;
+    n.core[c] = Core {
+        jobs,
+        count: k.count,
+        active: true,
+        owner: running_of(k),
+        ticket,
+        aborts: 0,
+        zombie: false,
+        reads: 0,
+        writes: 0,
+    };
+    Outcome { answer: Answer::Begun(ticket), machine: n }
 }
 
 // The transaction ends without effect.
