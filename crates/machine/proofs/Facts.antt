@@ -17,6 +17,10 @@ module _ (m : Machine) (s : sound m ≡ true) where
   pub core-place : (c : ℕ) → c < m .cores → c < 16
   core-place c h = omega (arith, stands .few-cores)
 
+  -- a card of the machine's has a place
+  pub object-place : (d : ℕ) → d < m .objects → d < 64
+  object-place d h = omega (arith, stands .few-objects)
+
   pub few-jobs : (c : ℕ) → c < m .cores → coreAt m c .count ≤ 8
   few-jobs c h = stands .tidy c (core-place c h) .at-most-eight
 

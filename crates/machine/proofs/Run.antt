@@ -11,7 +11,7 @@ mod Moments
 mod Serially
 mod View
 mod Effects
-mod Places
+pub mod Places
 mod CoreAgrees
 mod Agreement
 mod AgreementCommit

@@ -2,3 +2,4 @@
 // and what callers use that hold such a record by proof. Assumes nothing.
 pub mod jobs;
 pub mod transaction;
+pub mod access;
