@@ -3,6 +3,7 @@ mod Entries
 mod JobLaws
 mod CallLaws
 mod AccessLaws
+mod DoorLaws
 mod Facts
 pub mod Case
 pub mod CanFollow

@@ -1,7 +1,24 @@
-// The machine's record (document 01: the record that each call but setup takes and all hand back), the answers of the
-// eight calls, and what a call hands back. Assumes nothing.
+// The machine's record (document 01: the record that each call but setup takes and all hand back), the answers of the eight
+// calls, what a call hands back, and the eight calls. Each promise is an equation with the rule (specs/Rule.antt) for the answer,
+// the whole record and every word of both tables, for every record, sound or not, and every table length. Assumes nothing.
+use crate::inside::access;
+use crate::inside::transaction;
+use crate::setup::clear;
+use crate::setup::fresh;
+use crate::soundness::is_sound;
+ghost use mathlib.Core.Path.{_≡_};
+ghost use mathlib.Core.Bool.{_&&_};
+ghost use Prim.Native.Nat.{_*_};
+ghost use lib.Dec.{eqb, ltb, leb};
+ghost use Rattle.machine.specs.Sound.{sound};
+ghost use Rattle.machine.specs.Rule as Rule;
+ghost use Rattle.machine.specs.Rule.{lent, left};
+ghost use Rattle.machine.specs.Record.{blank};
+ghost use Rattle.machine.specs.declared.Answer.the-variants.{Refused};
+
 pub mod inside;
 mod setup;
+mod soundness;
 
 // A job in a core's list.
 pub struct Job {
@@ -67,4 +84,125 @@ pub enum Answer {
 pub struct Outcome {
     pub answer: Answer,
     pub machine: Machine,
+}
+
+// Whether there may be that many cores and cards.
+fn in_range(cores: u32, cards: u32) -> bool
+    ensures { λ r. ⌜ r ≡ (ltb 0 cores && leb cores 16 && ltb 0 cards && leb cards 64) ⌝ }
+{
+    if cores < 1 {
+        return false;
+    }
+    if 16 < cores {
+        return false;
+    }
+    if cards < 1 {
+        return false;
+    }
+    cards <= 64
+}
+
+// Whether tables of these lengths fit a machine of that many cores and objects.
+fn tables_fit(cores: u8, objects: u8, committed: usize, pending: usize) -> bool
+    ensures { λ r. ⌜ r ≡ (eqb committed objects && eqb pending (cores * objects)) ⌝ }
+{
+    if committed == objects as usize {
+        pending == cores as usize * objects as usize
+    } else {
+        false
+    }
+}
+
+// Setup that is refused hands back the blank record.
+fn refused_setup(number: u8) -> Outcome
+    ensures { λ r. ⌜ r ≡ record { answer = Refused number; machine = blank } ⌝ }
+{
+    Outcome { answer: Answer::Refused(number), machine: fresh(0, 0) }
+}
+
+impl Machine {
+    // Whether the record keeps the standing rules.
+    pub fn sound(self) -> bool
+        ensures { λ r. ⌜ r ≡ sound self ⌝ }
+    {
+        is_sound(self)
+    }
+
+    // A new machine, both tables zero. Refused, the tables keep every word and the record is blank: 1 cores not 1 to 16 or cards
+    // not 1 to 64, 3 either table's length is wrong.
+    pub fn setup(cores: u32, cards: u32, committed: &mut [u32], pending: &mut [u32]) -> Outcome
+        ensures { λ r. ⌜ left r (now (committed .exit)) (now (pending .exit)) ≡ Rule.setup cores cards (now (committed .entry)) (now (pending .entry)) ⌝ }
+    {
+        if in_range(cores, cards) {
+            let n = cores as u8;
+            let d = cards as u8;
+            if tables_fit(n, d, committed.len(), pending.len()) {
+                clear(committed);
+                clear(pending);
+                Outcome { answer: Answer::Ready, machine: fresh(n, d) }
+            } else {
+                refused_setup(3)
+            }
+        } else {
+            refused_setup(1)
+        }
+    }
+
+    // The running job's transaction gets the next ticket: 2 unsound record, 4 no such core, 7 the core has no job, 8 a transaction
+    // is in progress, 10 every ticket is given. Refused, the record comes back as given.
+    pub fn begin(self, core: u32) -> Outcome
+        ensures { λ r. ⌜ r ≡ Rule.begin self core ⌝ }
+    {
+        if is_sound(self) {
+            transaction::begin(self, core)
+        } else {
+            Outcome { answer: Answer::Refused(2), machine: self }
+        }
+    }
+
+    // The card's pending value if this attempt wrote it, else its committed value, and the committed version; the card joins the
+    // read set. A marked transaction is told that it was set back instead. 2 unsound record, 3 wrong table, 4 no such core, 5 no
+    // such card, 9 none in progress. Both tables keep every word; refused, the record comes back as given.
+    pub fn read(self, core: u32, card: u32, committed: &mut [u32], pending: &mut [u32]) -> Outcome
+        ensures { λ r. ⌜ left r (now (committed .exit)) (now (pending .exit)) ≡ Rule.read (lent self (now (committed .entry)) (now (pending .entry))) core card ⌝ }
+    {
+        if is_sound(self) {
+            if tables_fit(self.cores, self.objects, committed.len(), pending.len()) {
+                access::read(self, core, card, committed, pending)
+            } else {
+                Outcome { answer: Answer::Refused(3), machine: self }
+            }
+        } else {
+            Outcome { answer: Answer::Refused(2), machine: self }
+        }
+    }
+
+    // Stores the pending word; the card joins the write set. A marked transaction is told that it was set back instead. 2 unsound
+    // record, 3 wrong table, 4 no such core, 5 no such card, 9 none in progress. No other word changes; refused, none does and the
+    // record comes back as given.
+    pub fn write(self, core: u32, card: u32, value: u32, committed: &mut [u32], pending: &mut [u32]) -> Outcome
+        ensures { λ r. ⌜ left r (now (committed .exit)) (now (pending .exit)) ≡ Rule.write (lent self (now (committed .entry)) (now (pending .entry))) core card value ⌝ }
+    {
+        if is_sound(self) {
+            if tables_fit(self.cores, self.objects, committed.len(), pending.len()) {
+                access::write(self, core, card, value, committed, pending)
+            } else {
+                Outcome { answer: Answer::Refused(3), machine: self }
+            }
+        } else {
+            Outcome { answer: Answer::Refused(2), machine: self }
+        }
+    }
+
+    // The transaction ends without effect: 2 unsound record, 4 no such core, 9 none in progress. Refused, the record comes back as
+    // given.
+    pub fn give_up(self, core: u32) -> Outcome
+        ensures { λ r. ⌜ r ≡ Rule.giveUp self core ⌝ }
+    {
+        if is_sound(self) {
+            transaction::give_up(self, core)
+        } else {
+            Outcome { answer: Answer::Refused(2), machine: self }
+        }
+    }
 }

@@ -1,0 +1,86 @@
+-- `machine::Machine::setup` meets its contract. Assumes nothing.
+use mathlib.Core.Path.{_≡_, sym, _∙_}
+use native.Mathlib.Omega.{arith}
+use borrow.Author.Needs.{needs}
+use Rattle.machine.proofs.DoorLaws.{few-of, setup-range, setup-misfit, setup-made}
+use Rattle.machine.proofs.Machine.setup.Statement.{statement}
+use Rattle.machine.proofs.Machine.setup.Tie as tie
+
+in-range-requires : tie.Need-in-range-requires
+in-range-requires c κs = search needs
+
+cast-n : tie.Need-cast-n
+cast-n c =
+    let args = c .before .before .before .before .args in
+    omega (arith, few-of (args .cores) (args .cards) (sym (c .before .in-range .ensures) ∙ c .if1 .taken) .0)
+
+cast-d : tie.Need-cast-d
+cast-d c =
+    let args = c .before .before .before .before .args in
+    omega (arith, few-of (args .cores) (args .cards) (sym (c .before .in-range .ensures) ∙ c .if1 .taken) .1)
+
+tables-fit-requires : tie.Need-tables-fit-requires
+tables-fit-requires c κs = search needs
+
+clear-requires : tie.Need-clear-requires
+clear-requires c κs = search needs
+
+clear-requires-2 : tie.Need-clear-requires-2
+clear-requires-2 c κs = search needs
+
+fresh-requires : tie.Need-fresh-requires
+fresh-requires c κs = search needs
+
+refused-setup-requires : tie.Need-refused-setup-requires
+refused-setup-requires c κs = search needs
+
+refused-setup-requires-2 : tie.Need-refused-setup-requires-2
+refused-setup-requires-2 c κs = search needs
+
+same-length : tie.Need-same-length
+same-length c = search needs
+
+same-length-2 : tie.Need-same-length-2
+same-length-2 c = search needs
+
+returns : tie.Need-returns
+returns c =
+    let clear2 = c .before .before .before in
+    let clear = clear2 .before .before .before .before in
+    let then2 = clear .before .before in
+    let fit = then2 .before in
+    let then1 = fit .before in
+    rw (c .fresh .ensures, clear .clear .ensures, clear2 .clear2 .ensures)
+    (setup-made _ _ _ _ (sym (then1 .before .in-range .ensures) ∙ then1 .if1 .taken) (sym (fit .tables-fit .ensures) ∙ then2 .if2 .taken))
+
+returns-2 : tie.Need-returns-2
+returns-2 c =
+    let else2 = c .before in
+    let fit = else2 .before in
+    let then1 = fit .before in
+    rw (c .refused-setup .ensures)
+    (setup-misfit _ _ _ _ (sym (then1 .before .in-range .ensures) ∙ then1 .if1 .taken) (sym (fit .tables-fit .ensures) ∙ else2 .if2 .left))
+
+returns-3 : tie.Need-returns-3
+returns-3 c =
+    let else1 = c .before in
+    rw (c .refused-setup2 .ensures) (setup-range _ _ _ _ (sym (else1 .before .in-range .ensures) ∙ else1 .if1 .left))
+
+pub setup-spec : {M : Type 1} → statement M
+setup-spec =
+    tie.close
+    (tie.spec
+    in-range-requires
+    cast-n
+    cast-d
+    tables-fit-requires
+    clear-requires
+    clear-requires-2
+    fresh-requires
+    refused-setup-requires
+    refused-setup-requires-2
+    same-length
+    same-length-2
+    returns
+    returns-2
+    returns-3)
