@@ -1,16 +1,19 @@
--- The laws of `least`, one for each turn of the search for it, and of `running`. Assumes nothing.
-use mathlib.Core.Path.{_≡_, refl, sym, ap, _∙_}
+-- The laws of `least`, one for each turn of the search for it, of `running`, and of `without`, one for each turn of the shift.
+-- Assumes nothing.
+use mathlib.Core.Path.{_≡_, refl, sym, ap, ap₂, _∙_}
 use mathlib.Core.Bool.{Bool, true, false, cond}
-use mathlib.Core.List.{List}
+use mathlib.Core.List.{List, [], _∷_, _++_, append-assoc, append-nil}
 use Prim.Native.Nat.{ℕ, zero, suc, _+_, _≤_, _<_, max}
 use native.Mathlib.Numerals.{add-one}
 use native.Mathlib.Omega.{arith}
 use lib.Dec.{ltb}
-use lib.ListN.{getD}
+use lib.ListN.{getD, set, length, take, drop}
+use lib.Seq.{take-suc-set, drop-set-lt, drop-cons, set-split, drop-length}
 use borrow.Author.Tests.{lt-ltb, le-ltb}
 use Rattle.machine.specs.declared.Core.{Core}
 use Rattle.machine.specs.declared.Job.{Job}
 use Rattle.machine.specs.Record.{noJob, least, running}
+use Rattle.machine.specs.Rule.{without}
 
 pub least-one : (jobs : List Job) → _≡_ {A = ℕ} (least jobs 1) 0
 unfolding least
@@ -44,3 +47,28 @@ running-owner k on = sym (ap (λ (b : Bool). cond b (k .owner) (least (k .jobs) 
 pub running-least : (k : Core) → k .active ≡ false → least (k .jobs) (k .count) ≡ running k
 unfolding running
 running-least k off = sym (ap (λ (b : Bool). cond b (k .owner) (least (k .jobs) (k .count))) off)
+
+-- ---- a job leaves the list: the jobs after it move up, one a turn
+
+-- where a job is replaced by the next one, the list without the next is the list without the job
+pub without-next : (jobs : List Job) (i : ℕ) → i + 1 < length jobs → without (set jobs i (getD jobs (i + 1) noJob)) (i + 1) ≡ without jobs i
+without-next jobs i h =
+    rw (add-one i)
+    (ap₂ (λ (front back : List Job). front ++ back ++ (noJob ∷ [])) (take-suc-set jobs i next (omega arith))
+    (drop-set-lt (suc (suc i)) jobs i next (omega arith))
+    ∙ ap (λ (l : List Job). l ++ (noJob ∷ []))
+    (append-assoc (take i jobs) (next ∷ []) (drop (suc (suc i)) jobs)
+    ∙ ap (λ (l : List Job). take i jobs ++ l) (sym (drop-cons jobs (suc i) noJob (omega arith)))))
+  where
+    next : Job
+    next = getD jobs (suc i) noJob
+
+-- the last job leaves where its place becomes unused
+pub without-last : (jobs : List Job) (i : ℕ) → length jobs ≡ i + 1 → set jobs i noJob ≡ without jobs i
+without-last jobs i h =
+    set-split jobs i noJob (omega arith)
+    ∙ ap (λ (l : List Job). take i jobs ++ noJob ∷ l) none
+    ∙ sym (ap (λ (l : List Job). take i jobs ++ l ++ (noJob ∷ [])) none ∙ ap (λ (l : List Job). l ++ (noJob ∷ [])) (append-nil (take i jobs)))
+  where
+    none : drop (suc i) jobs ≡ []
+    none = ap (λ (n : ℕ). drop n jobs) (sym (h ∙ add-one i)) ∙ drop-length jobs

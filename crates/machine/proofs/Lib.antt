@@ -2,6 +2,7 @@ mod Tally
 mod Entries
 mod JobLaws
 mod CallLaws
+mod JobCalls
 mod Facts
 pub mod Case
 pub mod CanFollow
