@@ -30,7 +30,7 @@ returns-3 c =
     finish-open _ _ (c .before .before .before .before .pre) (c .before .before .before .if1 .left) (c .before .if2 .left) (c .if3 .taken)
 
 least-of-requires : tie.Need-least-of-requires
-least-of-requires c κs = few-jobs _ (c .before .before .before .before .pre) _ (c .before .before .before .if1 .left)
+least-of-requires c κs = few-jobs _ (c .before .before .before .before .before .pre) _ (c .before .before .before .before .if1 .left)
 
 cast-p : tie.Need-cast-p
 cast-p c = search needs
@@ -39,10 +39,12 @@ mul-number : tie.Need-mul-number
 mul-number c = search needs
 
 element-copy-out-number : tie.Need-element-copy-out-number
-element-copy-out-number c = ?
+element-copy-out-number c =
+    rw (c .least-of .ensures) (least-place _ _ (c .before .before .before .before .before .before .pre) (c .before .before .before .before .before .if1 .left) (c .before .before .before .if2 .left))
 
 remove-requires : tie.Need-remove-requires
-remove-requires c κs = ?
+remove-requires c κs =
+    rw (c .least-of .ensures) (least-place _ _ (c .before .before .before .before .before .before .pre) (c .before .before .before .before .before .if1 .left) (c .before .before .before .if2 .left))
 
 sub-left : tie.Need-sub-left
 sub-left c = search needs
@@ -51,10 +53,12 @@ mul-left : tie.Need-mul-left
 mul-left c = search needs
 
 element-set-from-left : tie.Need-element-set-from-left
-element-set-from-left c = ?
+element-set-from-left c = core-place _ (c .before .before .before .before .before .before .before .pre) _ (c .before .before .before .before .before .before .if1 .left)
 
 returns-4 : tie.Need-returns-4
-returns-4 c = ?
+returns-4 c =
+    finish-leaves _ _ (c .before .before .before .before .before .before .before .pre) _ _ (c .before .before .before .before .before .before .if1 .left) (c .before .before .before .before .if2 .left) (c .before .before .before .if3 .left) (c .before .least-of .ensures)
+    (c .remove .ensures)
 
 pub finish-spec : {M : Type 1} → statement M
 finish-spec =
