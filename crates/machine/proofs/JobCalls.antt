@@ -1,15 +1,14 @@
 -- One law for each way that release and finish can go, over plain variables, as `CallLaws` has for give up. Assumes nothing.
-use mathlib.Core.Path.{_≡_, refl, sym, ap, ap₂, _∙_}
+use mathlib.Core.Path.{_≡_, sym, ap, ap₂, _∙_}
 use mathlib.Core.Bool.{Bool, true, false, cond}
 use mathlib.Core.List.{List}
-use Prim.Native.Nat.{ℕ, _+_, _-_, _≤_, _<_}
+use Prim.Native.Nat.{ℕ, _-_, _≤_, _<_}
 use native.Mathlib.Omega.{arith}
 use lib.Dec.{eqb}
 use borrow.Author.Tests.{le-leb, lt-leb, eq-eqb, ne-eqb}
 use Rattle.machine.specs.declared.Machine.{Machine}
 use Rattle.machine.specs.declared.Core.{Core}
 use Rattle.machine.specs.declared.Job.{Job}
-use Rattle.machine.specs.declared.Answer.{Answer}
 use Rattle.machine.specs.declared.Answer.the-variants.{Running, Queued, Finished, Refused}
 use Rattle.machine.specs.declared.Outcome.{Outcome}
 use Rattle.machine.specs.Record.{coreAt, jobAt, putCore, least, running}
@@ -77,9 +76,9 @@ module _ (m : Machine) (c : ℕ) (s : sound m ≡ true) where
   pub finish-leaves : (p : ℕ) (rest : List Job) → c < m .cores → (coreAt m c .count ≡ 0 → ⊥) → coreAt m c .active ≡ false
       → p ≡ least (coreAt m c .jobs) (coreAt m c .count) → rest ≡ without (coreAt m c .jobs) p
       → record {
-          answer = Finished (jobAt (coreAt m c) p .number);
-          machine = putCore m c (withList (coreAt m c) rest (coreAt m c .count - 1));
-        }
+        answer = Finished (jobAt (coreAt m c) p .number);
+        machine = putCore m c (withList (coreAt m c) rest (coreAt m c .count - 1));
+      }
       ≡ finish m c
   unfolding finish finished
   finish-leaves p rest h some off e f =

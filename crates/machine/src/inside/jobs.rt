@@ -56,8 +56,8 @@ fn remove(mut jobs: [Job; 8], p: usize) -> [Job; 8]
     jobs
 }
 
-// The job joins the end of the core's list. Answers whether it is the core's running job now. Nothing else changes; a refusal
-// changes nothing.
+// A job joins the end of the core's list; its transaction and the other cores stay as they are. Answers Running if the job is the
+// core's running one now, else Queued. Refuses, and changes nothing, where there is no such core (4) or it has 8 jobs (6).
 pub fn release(m: Machine, core: u32, number: u16, deadline: u32) -> Outcome
     requires { ⌜ sound m ≡ true ⌝ }
     ensures { λ r. ⌜ r ≡ release m core number deadline ⌝ }
@@ -98,8 +98,9 @@ pub fn release(m: Machine, core: u32, number: u16, deadline: u32) -> Outcome
     }
 }
 
-// The running job leaves the core's list, the others keep their order. Answers its number. Nothing else changes; a refusal
-// changes nothing.
+// The running job leaves the core's list: the job of least deadline, since no transaction is in progress. The others keep their
+// order, and the other cores stay as they are. Answers the job's number. Refuses, and changes nothing, where there is no such
+// core (4), no job (7) or a transaction in progress (8).
 pub fn finish(m: Machine, core: u32) -> Outcome
     requires { ⌜ sound m ≡ true ⌝ }
     ensures { λ r. ⌜ r ≡ finish m core ⌝ }

@@ -1,14 +1,10 @@
 -- `machine::inside::jobs::finish` meets its contract. Assumes nothing.
-use mathlib.Core.Path.{_∙_, sym, ap}
+use Prim.Native.Nat.{_<_}
 use borrow.Author.Needs.{needs}
 use Rattle.machine.proofs.Facts.{core-place, few-jobs}
 use Rattle.machine.proofs.JobCalls.{least-place, finish-no-core, finish-jobless, finish-open, finish-leaves}
 use Rattle.machine.proofs.inside.jobs.finish.Statement.{statement}
 use Rattle.machine.proofs.inside.jobs.finish.Tie as tie
-use Rattle.machine.proofs.inside.jobs.finish.Reads as reads
-use Rattle.machine.proofs.inside.jobs.finish.Lts as lts
-use Rattle.machine.proofs.inside.jobs.least_of.Reads as least-of-reads
-use Rattle.machine.proofs.inside.jobs.remove.Reads as remove-reads
 
 cast-if1 : tie.Need-cast-if1
 cast-if1 c = search needs
@@ -38,13 +34,16 @@ cast-p c = search needs
 mul-number : tie.Need-mul-number
 mul-number c = search needs
 
-element-copy-out-number : tie.Need-element-copy-out-number
-element-copy-out-number c =
+-- the place that least_of answers is one of the list's
+found : (c : tie.After-least-of) → c .least-of .result < 8
+found c =
     rw (c .least-of .ensures) (least-place _ _ (c .before .before .before .before .before .before .pre) (c .before .before .before .before .before .if1 .left) (c .before .before .before .if2 .left))
 
+element-copy-out-number : tie.Need-element-copy-out-number
+element-copy-out-number c = found c
+
 remove-requires : tie.Need-remove-requires
-remove-requires c κs =
-    rw (c .least-of .ensures) (least-place _ _ (c .before .before .before .before .before .before .pre) (c .before .before .before .before .before .if1 .left) (c .before .before .before .if2 .left))
+remove-requires c κs = found c
 
 sub-left : tie.Need-sub-left
 sub-left c = search needs

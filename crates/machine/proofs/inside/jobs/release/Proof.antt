@@ -1,6 +1,5 @@
 -- `machine::inside::jobs::release` meets its contract. Assumes nothing.
-use mathlib.Core.Path.{_∙_, sym, ap}
-use native.Mathlib.Omega.{arith}
+use mathlib.Core.Path.{_∙_, sym}
 use borrow.Author.Needs.{needs}
 use Rattle.machine.proofs.Facts.{core-place}
 use Rattle.machine.proofs.JobCalls.{release-no-core, release-full, release-runs, release-queues}

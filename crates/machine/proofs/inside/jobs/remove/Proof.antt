@@ -2,7 +2,7 @@
 -- Assumes nothing.
 use mathlib.Core.Path.{_≡_, refl, sym, ap, _∙_}
 use mathlib.Core.List.{List}
-use Prim.Native.Nat.{ℕ, _+_, _-_, _≤_, _<_}
+use Prim.Native.Nat.{_-_, _≤_}
 use native.Mathlib.Omega.{arith}
 use lib.ListN.{length, length-set}
 use borrow.Author.Needs.{needs}
@@ -11,8 +11,6 @@ use Rattle.machine.specs.Rule.{without}
 use Rattle.machine.proofs.JobLaws.{without-next, without-last}
 use Rattle.machine.proofs.inside.jobs.remove.Statement.{statement}
 use Rattle.machine.proofs.inside.jobs.remove.Tie as tie
-use Rattle.machine.proofs.inside.jobs.remove.Reads as reads
-use Rattle.machine.proofs.inside.jobs.remove.Lts as lts
 
 abbrev Inv-loop : tie.InvT-loop
 Inv-loop p jobs₀ i₀ jobs i = (i ≤ 7) × (length jobs ≡ 8) × (without jobs i ≡ without jobs₀ p)
