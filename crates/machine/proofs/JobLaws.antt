@@ -1,6 +1,6 @@
 -- The laws of `least`, one for each turn of the search for it, of `running`, and of `without`, one for each turn of the shift.
 -- Assumes nothing.
-use mathlib.Core.Path.{_≡_, refl, sym, ap, ap₂, _∙_}
+use mathlib.Core.Path.{_≡_, refl, sym, ap, _∙_}
 use mathlib.Core.Bool.{Bool, true, false, cond}
 use mathlib.Core.List.{List, [], _∷_, _++_, append-assoc, append-nil}
 use Prim.Native.Nat.{ℕ, zero, suc, _+_, _≤_, _<_, max}
@@ -53,22 +53,16 @@ running-least k off = sym (ap (λ (b : Bool). cond b (k .owner) (least (k .jobs)
 -- where a job is replaced by the next one, the list without the next is the list without the job
 pub without-next : (jobs : List Job) (i : ℕ) → i + 1 < length jobs → without (set jobs i (getD jobs (i + 1) noJob)) (i + 1) ≡ without jobs i
 without-next jobs i h =
-    rw (add-one i)
-    (ap₂ (λ (front back : List Job). front ++ back ++ (noJob ∷ [])) (take-suc-set jobs i next (omega arith))
-    (drop-set-lt (suc (suc i)) jobs i next (omega arith))
-    ∙ ap (λ (l : List Job). l ++ (noJob ∷ []))
-    (append-assoc (take i jobs) (next ∷ []) (drop (suc (suc i)) jobs)
-    ∙ ap (λ (l : List Job). take i jobs ++ l) (sym (drop-cons jobs (suc i) noJob (omega arith)))))
-  where
-    next : Job
-    next = getD jobs (suc i) noJob
+    let here : i < length jobs = omega arith in
+    let before : i < suc (suc i) = omega arith in
+    let next : suc i < length jobs = omega arith in
+    rw (add-one i, take-suc-set, drop-set-lt, drop-cons jobs (suc i) noJob) (simp append-assoc)
 
 -- the last job leaves where its place becomes unused
 pub without-last : (jobs : List Job) (i : ℕ) → length jobs ≡ i + 1 → set jobs i noJob ≡ without jobs i
 without-last jobs i h =
-    set-split jobs i noJob (omega arith)
-    ∙ ap (λ (l : List Job). take i jobs ++ noJob ∷ l) none
-    ∙ sym (ap (λ (l : List Job). take i jobs ++ l ++ (noJob ∷ [])) none ∙ ap (λ (l : List Job). l ++ (noJob ∷ [])) (append-nil (take i jobs)))
+    let last : i < length jobs = omega arith in
+    rw (set-split, none, append-nil)
   where
     none : drop (suc i) jobs ≡ []
-    none = ap (λ (n : ℕ). drop n jobs) (sym (h ∙ add-one i)) ∙ drop-length jobs
+    none = rw (← add-one i, ← h) (drop-length jobs)

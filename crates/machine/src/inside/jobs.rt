@@ -78,10 +78,8 @@ pub fn release(m: Machine, core: u32, number: u16, deadline: u32) -> Outcome
         };
     }
     let place = count as usize;
-    let mut jobs = k.jobs;
-    jobs[place] = Job { number, deadline };
     let mut joined = k;
-    joined.jobs = jobs;
+    joined.jobs[place] = Job { number, deadline };
     joined.count = count + 1;
     let mut n = m;
     n.core[c] = joined;

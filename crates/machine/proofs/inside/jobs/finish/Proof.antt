@@ -37,7 +37,9 @@ mul-number c = search needs
 -- the place that least_of answers is one of the list's
 found : (c : tie.After-least-of) → c .least-of .result < 8
 found c =
-    rw (c .least-of .ensures) (least-place _ _ (c .before .before .before .before .before .before .pre) (c .before .before .before .before .before .if1 .left) (c .before .before .before .if2 .left))
+    let some = c .before .before .before in
+    rw (c .least-of .ensures)
+    (least-place _ _ (some .before .before .before .pre) (some .before .before .if1 .left) (some .if2 .left))
 
 element-copy-out-number : tie.Need-element-copy-out-number
 element-copy-out-number c = found c
@@ -52,12 +54,15 @@ mul-left : tie.Need-mul-left
 mul-left c = search needs
 
 element-set-from-left : tie.Need-element-set-from-left
-element-set-from-left c = core-place _ (c .before .before .before .before .before .before .before .pre) _ (c .before .before .before .before .before .before .if1 .left)
+element-set-from-left c =
+    let place = c .before .before .before .before .before .before in
+    core-place _ (place .before .pre) _ (place .if1 .left)
 
 returns-4 : tie.Need-returns-4
 returns-4 c =
-    finish-leaves _ _ (c .before .before .before .before .before .before .before .pre) _ _ (c .before .before .before .before .before .before .if1 .left) (c .before .before .before .before .if2 .left) (c .before .before .before .if3 .left) (c .before .least-of .ensures)
-    (c .remove .ensures)
+    let idle = c .before .before .before in
+    finish-leaves _ _ (idle .before .before .before .before .pre) _ _ (idle .before .before .before .if1 .left) (idle .before .if2 .left)
+    (idle .if3 .left) (c .before .least-of .ensures) (c .remove .ensures)
 
 pub finish-spec : {M : Type 1} → statement M
 finish-spec =

@@ -24,33 +24,35 @@ returns-2 c = release-full _ _ _ _ (c .before .before .before .pre) (c .before .
 cast-place : tie.Need-cast-place
 cast-place c = search needs
 
-mul-jobs : tie.Need-mul-jobs
-mul-jobs c = search needs
+mul-t17 : tie.Need-mul-t17
+mul-t17 c = search needs
 
-array-set-from-jobs : tie.Need-array-set-from-jobs
-array-set-from-jobs c = search needs
+element-set-from-joined : tie.Need-element-set-from-joined
+element-set-from-joined c = search needs
 
 add-joined : tie.Need-add-joined
 add-joined c = search needs
 
-mul-joined : tie.Need-mul-joined
-mul-joined c = search needs
+mul-running-of : tie.Need-mul-running-of
+mul-running-of c = search needs
 
-element-set-from-joined : tie.Need-element-set-from-joined
-element-set-from-joined c = core-place _ (c .before .before .before .before .pre) _ (c .before .before .before .if1 .left)
+element-set-from-running-of : tie.Need-element-set-from-running-of
+element-set-from-running-of c = core-place _ (c .before .before .before .pre) _ (c .before .before .if1 .left)
 
 running-of-requires : tie.Need-running-of-requires
 running-of-requires c κs = search needs
 
 returns-3 : tie.Need-returns-3
 returns-3 c =
-    release-runs _ _ _ _ (c .before .before .before .before .before .before .pre) (c .before .before .before .before .before .if1 .left)
-    (c .before .before .before .if2 .left) (sym (c .before .running-of .ensures) ∙ c .if3 .taken)
+    let room = c .before .before in
+    release-runs _ _ _ _ (room .before .before .before .pre) (room .before .before .if1 .left) (room .if2 .left)
+    (sym (c .before .running-of .ensures) ∙ c .if3 .taken)
 
 returns-4 : tie.Need-returns-4
 returns-4 c =
-    release-queues _ _ _ _ (c .before .before .before .before .before .before .pre) (c .before .before .before .before .before .if1 .left)
-    (c .before .before .before .if2 .left) (λ e. c .if3 .left (c .before .running-of .ensures ∙ e))
+    let room = c .before .before in
+    release-queues _ _ _ _ (room .before .before .before .pre) (room .before .before .if1 .left) (room .if2 .left)
+    (λ e. c .if3 .left (c .before .running-of .ensures ∙ e))
 
 pub release-spec : {M : Type 1} → statement M
 release-spec =
@@ -62,11 +64,11 @@ release-spec =
     element-copy-out-k
     returns-2
     cast-place
-    mul-jobs
-    array-set-from-jobs
-    add-joined
-    mul-joined
+    mul-t17
     element-set-from-joined
+    add-joined
+    mul-running-of
+    element-set-from-running-of
     running-of-requires
     returns-3
     returns-4)
