@@ -56,8 +56,9 @@ fn remove(mut jobs: [Job; 8], p: usize) -> [Job; 8]
     jobs
 }
 
-// A job joins the end of the core's list; its transaction and the other cores stay as they are. Answers Running if the job is the
-// core's running one now, else Queued. Refuses, and changes nothing, where there is no such core (4) or it has 8 jobs (6).
+// A job joins the end of the core's list; the core's transaction and the other cores stay as they are. Answers Running if the
+// job is the core's running one now, else Queued. Refuses, and changes nothing, where there is no such core (4) or it has 8
+// jobs (6).
 pub fn release(m: Machine, core: u32, number: u16, deadline: u32) -> Outcome
     requires { ⌜ sound m ≡ true ⌝ }
     ensures { λ r. ⌜ r ≡ release m core number deadline ⌝ }
