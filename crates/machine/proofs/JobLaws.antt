@@ -1,16 +1,19 @@
--- The laws of `least`, one for each turn of the search for it, and of `running`. Assumes nothing.
+-- The laws of `least`, one for each turn of the search for it, of `running`, and of `without`, one for each turn of the shift.
+-- Assumes nothing.
 use mathlib.Core.Path.{_≡_, refl, sym, ap, _∙_}
 use mathlib.Core.Bool.{Bool, true, false, cond}
-use mathlib.Core.List.{List}
+use mathlib.Core.List.{List, [], append-assoc, append-nil}
 use Prim.Native.Nat.{ℕ, zero, suc, _+_, _≤_, _<_, max}
 use native.Mathlib.Numerals.{add-one}
 use native.Mathlib.Omega.{arith}
 use lib.Dec.{ltb}
-use lib.ListN.{getD}
+use lib.ListN.{getD, set, length, drop}
+use lib.Seq.{take-suc-set, drop-set-lt, drop-cons, set-split, drop-length}
 use borrow.Author.Tests.{lt-ltb, le-ltb}
 use Rattle.machine.specs.declared.Core.{Core}
 use Rattle.machine.specs.declared.Job.{Job}
 use Rattle.machine.specs.Record.{noJob, least, running}
+use Rattle.machine.specs.Rule.{without}
 
 pub least-one : (jobs : List Job) → _≡_ {A = ℕ} (least jobs 1) 0
 unfolding least
@@ -44,3 +47,22 @@ running-owner k on = sym (ap (λ (b : Bool). cond b (k .owner) (least (k .jobs) 
 pub running-least : (k : Core) → k .active ≡ false → least (k .jobs) (k .count) ≡ running k
 unfolding running
 running-least k off = sym (ap (λ (b : Bool). cond b (k .owner) (least (k .jobs) (k .count))) off)
+
+-- ---- a job leaves the list: the jobs after it move up, one a turn
+
+-- where a job is replaced by the next one, the list without the next is the list without the job
+pub without-next : (jobs : List Job) (i : ℕ) → i + 1 < length jobs → without (set jobs i (getD jobs (i + 1) noJob)) (i + 1) ≡ without jobs i
+without-next jobs i h =
+    let here : i < length jobs = omega arith in
+    let before : i < suc (suc i) = omega arith in
+    let next : suc i < length jobs = omega arith in
+    rw (add-one i, take-suc-set, drop-set-lt, drop-cons jobs (suc i) noJob) (simp append-assoc)
+
+-- the last job leaves where its place becomes unused
+pub without-last : (jobs : List Job) (i : ℕ) → length jobs ≡ i + 1 → set jobs i noJob ≡ without jobs i
+without-last jobs i h =
+    let last : i < length jobs = omega arith in
+    rw (set-split, none, append-nil)
+  where
+    none : drop (suc i) jobs ≡ []
+    none = rw (← add-one i, ← h) (drop-length jobs)

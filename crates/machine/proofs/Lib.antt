@@ -4,6 +4,7 @@ mod JobLaws
 mod CallLaws
 mod AccessLaws
 mod DoorLaws
+mod JobCalls
 mod Facts
 pub mod Case
 pub mod CanFollow

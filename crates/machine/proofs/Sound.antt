@@ -1,7 +1,7 @@
 mod Turns
 mod Passed
 pub mod Standing
-mod Jobs
+pub mod Jobs
 mod Cores
 mod OneCore
 mod Commit
