@@ -3,6 +3,8 @@ mod Entries
 mod JobLaws
 mod CallLaws
 mod Facts
+mod Front
+mod CommitLaws
 pub mod Case
 pub mod CanFollow
 pub mod Sound
