@@ -17,7 +17,7 @@ use Rattle.machine.specs.Rule.{World, Result, unlessLent, misfit, wrongT
 use Rattle.machine.proofs.Entries.{cleared-at, cleared-long, changed-at, changed-long}
 use Rattle.machine.proofs.Facts.{stands, core-place, one-open}
 use Rattle.machine.proofs.CallLaws.{skips, hits, none-holds, is-sound, a-core, no-core}
-use Rattle.machine.proofs.Front.{front, front-next, front-stored, front-kept, front-all}
+use Rattle.machine.proofs.Front.{Stands, stands-next, stands-stored, stands-kept, stands-all}
 
 -- ---- two transactions
 
@@ -45,49 +45,48 @@ pub struck-idle : (ws : ℕ) (k : Core) → k .active ≡ false → k ≡ struck
 unfolding struck
 struck-idle ws k off = rw off
 
--- ---- the cores after a commit, by place
+-- ---- the loop over the cores
 
-module _ (ws c e : ℕ) (old : List Core) (l : e < length old) where
-  pub cleared-own : e ≡ c → set (front e (cleared ws c 0 old) old) e (over (getD (front e (cleared ws c 0 old) old) e noCore))
-      ≡ front (e + 1) (cleared ws c 0 old) old
-  cleared-own p =
-      front-stored e (cleared ws c 0 old) old noCore _ (cleared-long ws c 0 old) l
-      (ap over (front-next e (cleared ws c 0 old) old noCore (cleared-long ws c 0 old) l)
-      ∙ sym (cleared-at ws c old e l ∙ rw (eq-eqb e c p) refl))
+module _ (ws c : ℕ) (old : List Core) where
+  module _ (e : ℕ) (now next : List Core) (at : Stands e (cleared ws c 0 old) old now) (l : e < length old) where
+    pub cleared-own : e ≡ c → next ≡ set now e (over (getD now e noCore)) → Stands (e + 1) (cleared ws c 0 old) old next
+    cleared-own p =
+        stands-stored (cleared ws c 0 old) old (cleared-long ws c 0 old) e now next noCore _ at l
+        (ap over (stands-next (cleared ws c 0 old) old (cleared-long ws c 0 old) e now noCore at l)
+        ∙ sym (cleared-at ws c old e l ∙ rw (eq-eqb e c p) refl))
 
-  pub cleared-other : (e ≡ c → ⊥)
-      → set (front e (cleared ws c 0 old) old) e (struck ws (getD (front e (cleared ws c 0 old) old) e noCore))
-      ≡ front (e + 1) (cleared ws c 0 old) old
-  cleared-other p =
-      front-stored e (cleared ws c 0 old) old noCore _ (cleared-long ws c 0 old) l
-      (ap (struck ws) (front-next e (cleared ws c 0 old) old noCore (cleared-long ws c 0 old) l)
-      ∙ sym (cleared-at ws c old e l ∙ rw (ne-eqb e c p) refl))
+    pub cleared-other : (e ≡ c → ⊥) → next ≡ set now e (struck ws (getD now e noCore)) → Stands (e + 1) (cleared ws c 0 old) old next
+    cleared-other p =
+        stands-stored (cleared ws c 0 old) old (cleared-long ws c 0 old) e now next noCore _ at l
+        (ap (struck ws) (stands-next (cleared ws c 0 old) old (cleared-long ws c 0 old) e now noCore at l)
+        ∙ sym (cleared-at ws c old e l ∙ rw (ne-eqb e c p) refl))
 
--- the cores from n on have no transaction, and c is not among them
-pub cleared-done : (ws c n : ℕ) (old : List Core) → c < n
-    → ((e : ℕ) → e < length old → n ≤ e → getD old e noCore .active ≡ false) → front n (cleared ws c 0 old) old ≡ cleared ws c 0 old
-cleared-done ws c n old h idle =
-    front-all n (cleared ws c 0 old) old noCore (cleared-long ws c 0 old)
-    (λ e l p. struck-idle ws (getD old e noCore) (idle e l p)
-    ∙ sym (cleared-at ws c old e l ∙ rw (ne-eqb e c (λ q. omega arith)) refl))
+  -- the cores from n on have no transaction, and c is not among them
+  pub cleared-done : (n : ℕ) (now : List Core) → Stands n (cleared ws c 0 old) old now → c < n
+      → ((e : ℕ) → e < length old → n ≤ e → getD old e noCore .active ≡ false) → now ≡ cleared ws c 0 old
+  cleared-done n now at h idle =
+      stands-all (cleared ws c 0 old) old (cleared-long ws c 0 old) n now noCore at
+      (λ e l p. struck-idle ws (getD old e noCore) (idle e l p)
+      ∙ sym (cleared-at ws c old e l ∙ rw (ne-eqb e c (λ q. omega arith)) refl))
 
--- ---- the entries of the write set's objects, by place
+-- ---- the loops over the objects of the write set
 
-module _ (ws : ℕ) (f : ℕ → ℕ → ℕ) (d : ℕ) (old : List ℕ) (l : d < length old) where
-  pub changed-stored : has ws d ≡ true
-      → set (front d (changed ws f 0 old) old) d (f d (getD (front d (changed ws f 0 old) old) d 0)) ≡ front (d + 1) (changed ws f 0 old) old
-  changed-stored p =
-      front-stored d (changed ws f 0 old) old 0 _ (changed-long ws f 0 old) l
-      (ap (f d) (front-next d (changed ws f 0 old) old 0 (changed-long ws f 0 old) l) ∙ sym (changed-at ws f old d l ∙ rw p refl))
+module _ (ws : ℕ) (f : ℕ → ℕ → ℕ) (old : List ℕ) where
+  module _ (d : ℕ) (now next : List ℕ) (at : Stands d (changed ws f 0 old) old now) (l : d < length old) where
+    pub changed-stored : has ws d ≡ true → next ≡ set now d (f d (getD now d 0)) → Stands (d + 1) (changed ws f 0 old) old next
+    changed-stored p =
+        stands-stored (changed ws f 0 old) old (changed-long ws f 0 old) d now next 0 _ at l
+        (ap (f d) (stands-next (changed ws f 0 old) old (changed-long ws f 0 old) d now 0 at l) ∙ sym (changed-at ws f old d l ∙ rw p refl))
 
-  pub changed-kept : has ws d ≡ false → front d (changed ws f 0 old) old ≡ front (d + 1) (changed ws f 0 old) old
-  changed-kept p = front-kept d (changed ws f 0 old) old 0 (changed-long ws f 0 old) l (sym (changed-at ws f old d l ∙ rw p refl))
+    pub changed-kept : has ws d ≡ false → next ≡ now → Stands (d + 1) (changed ws f 0 old) old next
+    changed-kept p =
+        stands-kept (changed ws f 0 old) old (changed-long ws f 0 old) d now next 0 at l (sym (changed-at ws f old d l ∙ rw p refl))
 
--- no object from n on is in the write set
-pub changed-done : (ws : ℕ) (f : ℕ → ℕ → ℕ) (n : ℕ) (old : List ℕ) → ((d : ℕ) → d < length old → n ≤ d → has ws d ≡ false)
-    → front n (changed ws f 0 old) old ≡ changed ws f 0 old
-changed-done ws f n old h =
-    front-all n (changed ws f 0 old) old 0 (changed-long ws f 0 old) (λ d l p. sym (changed-at ws f old d l ∙ rw (h d l p) refl))
+  -- no object from n on is in the write set
+  pub changed-done : (n : ℕ) (now : List ℕ) → Stands n (changed ws f 0 old) old now
+      → ((d : ℕ) → d < length old → n ≤ d → has ws d ≡ false) → now ≡ changed ws f 0 old
+  changed-done n now at h =
+      stands-all (changed ws f 0 old) old (changed-long ws f 0 old) n now 0 at (λ d l p. sym (changed-at ws f old d l ∙ rw (h d l p) refl))
 
 -- ---- who holds a transaction back
 

@@ -140,10 +140,10 @@ fn cores_after(cores: [Core; 16], n: usize, c: usize, ws: u64) -> [Core; 16]
 }
 
 // Raises the version of each object in the write set ws by one. Only the first n are looked at: ws holds no other.
-fn raise_versions(ws: u64, n: usize, versions: &mut [u32; 64])
-    requires { ⌜ n ≤ 64 ⌝ }
-    requires { ⌜ ((d : ℕ) → d < 64 → has ws d ≡ true → d < n) ⌝ }
-    requires { ⌜ ((d : ℕ) → d < 64 → getD (now versions) d 0 < 4294967295) ⌝ }
+fn raise_versions(ws: u64, n: usize, versions: &mut [u32])
+    requires { ⌜ n ≤ length (now versions) ⌝ }
+    requires { ⌜ ((d : ℕ) → d < length (now versions) → has ws d ≡ true → d < n) ⌝ }
+    requires { ⌜ ((d : ℕ) → d < n → getD (now versions) d 0 < 4294967295) ⌝ }
     ensures { λ r. ⌜ now (versions .exit) ≡ changed ws (λ d v. v + 1) 0 (now (versions .entry)) ⌝ }
 {
     let mut d = 0;

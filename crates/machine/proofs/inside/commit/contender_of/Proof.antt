@@ -7,6 +7,7 @@ use native.Mathlib.Omega.{arith}
 use borrow.Author.Needs.{needs}
 use borrow.Author.Count.{below-none, below-more}
 use Rattle.machine.specs.Rule.{contender}
+use Rattle.machine.proofs.Facts.{core-place}
 use Rattle.machine.proofs.CommitLaws.{nobody-ahead}
 use Rattle.machine.proofs.inside.commit.contender_of.Statement.{statement}
 use Rattle.machine.proofs.inside.commit.contender_of.Tie as tie
@@ -36,13 +37,14 @@ mul-other : tie.Need-mul-other Inv-loop μ-loop
 mul-other c = search needs
 
 element-copy-out-other : tie.Need-element-copy-out-other Inv-loop μ-loop
-element-copy-out-other c = search needs
+element-copy-out-other c = core-place _ (c .before .before .before .pre .0) _ (c .loop-test .taken)
 
 comes-before-requires : tie.Need-comes-before-requires Inv-loop μ-loop
 comes-before-requires c κs = search needs
 
 returns : tie.Need-returns Inv-loop μ-loop
-returns c = search needs
+unfolding contender
+returns c = (λ e p. cc (sym (c .before .comes-before .ensures) ∙ c .if1 .taken), λ p. cc)
 
 add-e : tie.Need-add-e Inv-loop μ-loop
 add-e c = search needs
@@ -51,10 +53,14 @@ loop-less : tie.Need-loop-less Inv-loop μ-loop
 loop-less c = search needs
 
 loop-again : tie.Need-loop-again Inv-loop μ-loop
-loop-again c = search needs
+unfolding contender
+loop-again c = (omega arith, below-more _ _ (c .before .before .before .before .loop .inv .1) (sym (c .before .comes-before .ensures) ∙ c .if1 .left))
 
 returns-2 : tie.Need-returns-2 Inv-loop μ-loop
-returns-2 c = search needs
+returns-2 c = (
+  λ e p. cc,
+  λ p. nobody-ahead _ (c .before .before .before .pre .0) _ (λ e l. c .before .loop .inv .1 e (omega arith)),
+)
 
 pub contender-of-spec : {M : Type 1} → statement M
 contender-of-spec =

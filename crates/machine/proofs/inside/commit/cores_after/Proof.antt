@@ -4,10 +4,11 @@ use mathlib.Core.Path.{_≡_, refl, sym, ap, _∙_}
 use mathlib.Core.Logic.{⊎-elim}
 use Prim.Native.Nat.{ℕ, _+_, _-_, _≤_, _<_}
 use native.Mathlib.Omega.{arith}
-use lib.ListN.{length, getD}
+use lib.ListN.{length, getD, set}
 use borrow.Author.Needs.{needs}
 use Rattle.machine.specs.Rule.{cleared}
-use Rattle.machine.proofs.Front.{front, front-long}
+use Rattle.machine.proofs.Entries.{cleared-long}
+use Rattle.machine.proofs.Front.{Stands, stands-next}
 use Rattle.machine.proofs.CommitLaws.{cleared-own, cleared-other, cleared-done}
 use Rattle.machine.proofs.inside.commit.cores_after.Statement.{statement}
 use Rattle.machine.proofs.inside.commit.cores_after.Tie as tie
@@ -17,13 +18,13 @@ use Rattle.machine.proofs.inside.commit.struck_by.Reads as struck-by-re
 use Rattle.machine.proofs.inside.commit.without_transaction.Reads as without-transaction-reads
 
 abbrev Inv-loop : tie.InvT-loop
-Inv-loop n c ws after₀ e₀ after e = (e ≤ n) × (after ≡ front e (cleared ws c 0 after₀) after₀)
+Inv-loop n c ws after₀ e₀ after e = (e ≤ n) × Stands e (cleared ws c 0 after₀) after₀ after
 
 abbrev μ-loop : tie.MeasureT-loop
 μ-loop n c ws after₀ e₀ after e = n - e
 
 loop-holds : tie.Need-loop-holds Inv-loop μ-loop
-loop-holds c = (omega arith, refl)
+loop-holds c = (omega arith, (refl, refl))
 
 mul-k : tie.Need-mul-k Inv-loop μ-loop
 mul-k c = search needs
@@ -41,7 +42,12 @@ array-set-from-after : tie.Need-array-set-from-after Inv-loop μ-loop
 array-set-from-after c = search needs
 
 struck-by-requires : tie.Need-struck-by-requires Inv-loop μ-loop
-struck-by-requires c κs = search needs
+struck-by-requires c κs =
+    let start = c .before .before .before .before in
+    let at = c .before .before .before .loop in
+    let long : length (start .args .cores) ≡ 16 = search needs in
+    rw (stands-next (cleared (start .args .ws) (start .args .c) 0 (start .args .cores)) (start .args .cores) (cleared-long _ _ _ _) (at .e) (at .after) _ (at .inv .1) (omega arith))
+    (start .pre .1 .1 .0 (at .e) (omega arith))
 
 mul-after-2 : tie.Need-mul-after-2 Inv-loop μ-loop
 mul-after-2 c = search needs
@@ -56,10 +62,27 @@ loop-less : tie.Need-loop-less Inv-loop μ-loop
 loop-less c = search needs
 
 loop-again : tie.Need-loop-again Inv-loop μ-loop
-loop-again c = search needs
+loop-again c =
+    let start = c .before .before .before .before in
+    let at = c .before .before .before .loop in
+    let long : length (start .args .cores) ≡ 16 = search needs in
+    (
+      omega arith,
+      ⊎-elim
+      (λ w. cleared-own (start .args .ws) (start .args .c) (start .args .cores) (at .e) (at .after) _ (at .inv .1) (omega arith) (w .0 .taken)
+      (w .2 ∙ ap (set (at .after) (at .e)) (w .1 .ensures)))
+      (λ w. cleared-other (start .args .ws) (start .args .c) (start .args .cores) (at .e) (at .after) _ (at .inv .1) (omega arith) (w .0 .left)
+      (w .2 ∙ ap (set (at .after) (at .e)) (w .1 .ensures)))
+      (c .if1 .came),
+    )
 
 returns : tie.Need-returns Inv-loop μ-loop
-returns c = search needs
+returns c =
+    let start = c .before .before in
+    let long : length (start .args .cores) ≡ 16 = search needs in
+    let all : c .before .loop .e ≡ start .args .n = omega arith in
+    cleared-done (start .args .ws) (start .args .c) (start .args .cores) (c .before .loop .e) _ (c .before .loop .inv .1) (omega arith)
+    (λ e l p. start .pre .1 .1 .1 e (omega arith) (omega arith))
 
 pub cores-after-spec : {M : Type 1} → statement M
 cores-after-spec =

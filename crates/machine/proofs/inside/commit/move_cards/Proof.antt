@@ -7,7 +7,7 @@ use native.Mathlib.Omega.{arith}
 use lib.ListN.{length, getD}
 use borrow.Author.Needs.{needs}
 use Rattle.machine.specs.Rule.{changed}
-use Rattle.machine.proofs.Front.{front, front-long}
+use Rattle.machine.proofs.Front.{Stands}
 use Rattle.machine.proofs.CommitLaws.{changed-stored, changed-kept, changed-done}
 use Rattle.machine.proofs.inside.commit.move_cards.Statement.{statement}
 use Rattle.machine.proofs.inside.commit.move_cards.Tie as tie
@@ -16,13 +16,13 @@ use Rattle.machine.proofs.inside.commit.move_cards.Lts as lts
 use Rattle.objset.proofs.contains.Reads as contains-reads
 
 abbrev Inv-loop : tie.InvT-loop
-Inv-loop ws base committed₀ pending d₀ committed d = (d ≤ length committed₀) × (committed ≡ front d (changed ws (λ e v. getD pending (base + e) 0) 0 committed₀) committed₀)
+Inv-loop ws base committed₀ pending d₀ committed d = (d ≤ length committed₀) × Stands d (changed ws (λ e v. getD pending (base + e) 0) 0 committed₀) committed₀ committed
 
 abbrev μ-loop : tie.MeasureT-loop
 μ-loop ws base committed₀ pending d₀ committed d = length committed₀ - d
 
 loop-holds : tie.Need-loop-holds Inv-loop μ-loop
-loop-holds c = (omega arith, refl)
+loop-holds c = (omega arith, (refl, refl))
 
 contains-requires : tie.Need-contains-requires Inv-loop μ-loop
 contains-requires c κs = search needs
@@ -49,13 +49,28 @@ loop-less : tie.Need-loop-less Inv-loop μ-loop
 loop-less c = search needs
 
 loop-again : tie.Need-loop-again Inv-loop μ-loop
-loop-again c = search needs
+loop-again c = 
+    let start = c .before .before .before .before .before .before in
+    let at = c .before .before .before .loop in
+    let moved : ℕ → ℕ → ℕ = λ d v. getD (start .args .pending .now) (start .args .base + d) 0 in
+    (
+      omega arith,
+      ⊎-elim
+      (λ w. changed-stored (start .args .ws) moved (start .args .committed .now) (at .d) (at .committed) _ (at .inv .1) (omega arith)
+      (sym (c .before .contains .ensures) ∙ w .0 .taken) (w .2))
+      (λ w. changed-kept (start .args .ws) moved (start .args .committed .now) (at .d) (at .committed) _ (at .inv .1) (omega arith)
+      (sym (c .before .contains .ensures) ∙ w .0 .left) (w .1))
+      (c .if1 .came),
+    )
 
 same-length : tie.Need-same-length Inv-loop μ-loop
-same-length c = search needs
+same-length c = c .before .loop .inv .1 .0
 
 returns : tie.Need-returns Inv-loop μ-loop
-returns c = search needs
+returns c = 
+    let start = c .before .before .before .before in
+    changed-done (start .args .ws) _ (start .args .committed .now) (c .before .loop .d) _ (c .before .loop .inv .1)
+    (λ d l p. absurd (omega arith))
 
 pub move-cards-spec : {M : Type 1} → statement M
 move-cards-spec =
