@@ -48,18 +48,20 @@ struck-idle ws k off = rw off
 -- ---- the loop over the cores
 
 module _ (ws c : ℕ) (old : List Core) where
-  module _ (e : ℕ) (now next : List Core) (at : Stands e (cleared ws c 0 old) old now) (l : e < length old) where
-    pub cleared-own : e ≡ c → next ≡ set now e (over (getD now e noCore)) → Stands (e + 1) (cleared ws c 0 old) old next
-    cleared-own p =
-        stands-stored (cleared ws c 0 old) old (cleared-long ws c 0 old) e now next noCore _ at l
-        (ap over (stands-next (cleared ws c 0 old) old (cleared-long ws c 0 old) e now noCore at l)
-        ∙ sym (cleared-at ws c old e l ∙ rw (eq-eqb e c p) refl))
+  module _ (e : ℕ) (now : List Core) (at : Stands e (cleared ws c 0 old) old now) (l : e < length old) where
+    -- the core whose turn it is is as it was
+    pub cleared-next : getD now e noCore ≡ getD old e noCore
+    cleared-next = stands-next (cleared ws c 0 old) old (cleared-long ws c 0 old) e now noCore at l
 
-    pub cleared-other : (e ≡ c → ⊥) → next ≡ set now e (struck ws (getD now e noCore)) → Stands (e + 1) (cleared ws c 0 old) old next
-    cleared-other p =
+    pub cleared-own : (next : List Core) → e ≡ c → next ≡ set now e (over (getD now e noCore)) → Stands (e + 1) (cleared ws c 0 old) old next
+    cleared-own next p =
         stands-stored (cleared ws c 0 old) old (cleared-long ws c 0 old) e now next noCore _ at l
-        (ap (struck ws) (stands-next (cleared ws c 0 old) old (cleared-long ws c 0 old) e now noCore at l)
-        ∙ sym (cleared-at ws c old e l ∙ rw (ne-eqb e c p) refl))
+        (ap over cleared-next ∙ sym (cleared-at ws c old e l ∙ rw (eq-eqb e c p) refl))
+
+    pub cleared-other : (next : List Core) → (e ≡ c → ⊥) → next ≡ set now e (struck ws (getD now e noCore)) → Stands (e + 1) (cleared ws c 0 old) old next
+    cleared-other next p =
+        stands-stored (cleared ws c 0 old) old (cleared-long ws c 0 old) e now next noCore _ at l
+        (ap (struck ws) cleared-next ∙ sym (cleared-at ws c old e l ∙ rw (ne-eqb e c p) refl))
 
   -- the cores from n on have no transaction, and c is not among them
   pub cleared-done : (n : ℕ) (now : List Core) → Stands n (cleared ws c 0 old) old now → c < n
@@ -72,21 +74,30 @@ module _ (ws c : ℕ) (old : List Core) where
 -- ---- the loops over the objects of the write set
 
 module _ (ws : ℕ) (f : ℕ → ℕ → ℕ) (old : List ℕ) where
-  module _ (d : ℕ) (now next : List ℕ) (at : Stands d (changed ws f 0 old) old now) (l : d < length old) where
-    pub changed-stored : has ws d ≡ true → next ≡ set now d (f d (getD now d 0)) → Stands (d + 1) (changed ws f 0 old) old next
-    changed-stored p =
-        stands-stored (changed ws f 0 old) old (changed-long ws f 0 old) d now next 0 _ at l
-        (ap (f d) (stands-next (changed ws f 0 old) old (changed-long ws f 0 old) d now 0 at l) ∙ sym (changed-at ws f old d l ∙ rw p refl))
+  module _ (d : ℕ) (now : List ℕ) (at : Stands d (changed ws f 0 old) old now) (l : d < length old) where
+    -- the entry whose turn it is is as it was
+    pub changed-next : getD now d 0 ≡ getD old d 0
+    changed-next = stands-next (changed ws f 0 old) old (changed-long ws f 0 old) d now 0 at l
 
-    pub changed-kept : has ws d ≡ false → next ≡ now → Stands (d + 1) (changed ws f 0 old) old next
-    changed-kept p =
+    pub changed-stored : (next : List ℕ) → has ws d ≡ true → next ≡ set now d (f d (getD now d 0)) → Stands (d + 1) (changed ws f 0 old) old next
+    changed-stored next p =
+        stands-stored (changed ws f 0 old) old (changed-long ws f 0 old) d now next 0 _ at l
+        (ap (f d) changed-next ∙ sym (changed-at ws f old d l ∙ rw p refl))
+
+    pub changed-kept : (next : List ℕ) → has ws d ≡ false → next ≡ now → Stands (d + 1) (changed ws f 0 old) old next
+    changed-kept next p =
         stands-kept (changed ws f 0 old) old (changed-long ws f 0 old) d now next 0 at l (sym (changed-at ws f old d l ∙ rw p refl))
 
-  -- no object from n on is in the write set
+  -- the write set lies within the first n objects
   pub changed-done : (n : ℕ) (now : List ℕ) → Stands n (changed ws f 0 old) old now
-      → ((d : ℕ) → d < length old → n ≤ d → has ws d ≡ false) → now ≡ changed ws f 0 old
+      → ((d : ℕ) → d < length old → has ws d ≡ true → d < n) → now ≡ changed ws f 0 old
   changed-done n now at h =
-      stands-all (changed ws f 0 old) old (changed-long ws f 0 old) n now 0 at (λ d l p. sym (changed-at ws f old d l ∙ rw (h d l p) refl))
+      stands-all (changed ws f 0 old) old (changed-long ws f 0 old) n now 0 at
+      (λ d l p. sym (changed-at ws f old d l ∙ rw (outside d l p (has ws d) refl) refl))
+    where
+      outside : (d : ℕ) → d < length old → n ≤ d → (q : Bool) → has ws d ≡ q → has ws d ≡ false
+      outside d l p true e = absurd (omega (arith, h d l e))
+      outside d l p false e = e
 
 -- ---- who holds a transaction back
 

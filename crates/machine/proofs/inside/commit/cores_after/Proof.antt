@@ -7,9 +7,8 @@ use native.Mathlib.Omega.{arith}
 use lib.ListN.{length, getD, set}
 use borrow.Author.Needs.{needs}
 use Rattle.machine.specs.Rule.{cleared}
-use Rattle.machine.proofs.Entries.{cleared-long}
-use Rattle.machine.proofs.Front.{Stands, stands-next}
-use Rattle.machine.proofs.CommitLaws.{cleared-own, cleared-other, cleared-done}
+use Rattle.machine.proofs.Front.{Stands}
+use Rattle.machine.proofs.CommitLaws.{cleared-next, cleared-own, cleared-other, cleared-done}
 use Rattle.machine.proofs.inside.commit.cores_after.Statement.{statement}
 use Rattle.machine.proofs.inside.commit.cores_after.Tie as tie
 use Rattle.machine.proofs.inside.commit.cores_after.Reads as reads
@@ -46,7 +45,7 @@ struck-by-requires c κs =
     let start = c .before .before .before .before in
     let at = c .before .before .before .loop in
     let long : length (start .args .cores) ≡ 16 = search needs in
-    rw (stands-next (cleared (start .args .ws) (start .args .c) 0 (start .args .cores)) (start .args .cores) (cleared-long _ _ _ _) (at .e) (at .after) _ (at .inv .1) (omega arith))
+    rw (cleared-next (start .args .ws) (start .args .c) (start .args .cores) (at .e) (at .after) (at .inv .1) (omega arith))
     (start .pre .1 .1 .0 (at .e) (omega arith))
 
 mul-after-2 : tie.Need-mul-after-2 Inv-loop μ-loop
@@ -69,9 +68,9 @@ loop-again c =
     (
       omega arith,
       ⊎-elim
-      (λ w. cleared-own (start .args .ws) (start .args .c) (start .args .cores) (at .e) (at .after) _ (at .inv .1) (omega arith) (w .0 .taken)
+      (λ w. cleared-own (start .args .ws) (start .args .c) (start .args .cores) (at .e) (at .after) (at .inv .1) (omega arith) _ (w .0 .taken)
       (w .2 ∙ ap (set (at .after) (at .e)) (w .1 .ensures)))
-      (λ w. cleared-other (start .args .ws) (start .args .c) (start .args .cores) (at .e) (at .after) _ (at .inv .1) (omega arith) (w .0 .left)
+      (λ w. cleared-other (start .args .ws) (start .args .c) (start .args .cores) (at .e) (at .after) (at .inv .1) (omega arith) _ (w .0 .left)
       (w .2 ∙ ap (set (at .after) (at .e)) (w .1 .ensures)))
       (c .if1 .came),
     )

@@ -56,9 +56,9 @@ loop-again c =
     (
       omega arith,
       ⊎-elim
-      (λ w. changed-stored (start .args .ws) moved (start .args .committed .now) (at .d) (at .committed) _ (at .inv .1) (omega arith)
+      (λ w. changed-stored (start .args .ws) moved (start .args .committed .now) (at .d) (at .committed) (at .inv .1) (omega arith) _
       (sym (c .before .contains .ensures) ∙ w .0 .taken) (w .2))
-      (λ w. changed-kept (start .args .ws) moved (start .args .committed .now) (at .d) (at .committed) _ (at .inv .1) (omega arith)
+      (λ w. changed-kept (start .args .ws) moved (start .args .committed .now) (at .d) (at .committed) (at .inv .1) (omega arith) _
       (sym (c .before .contains .ensures) ∙ w .0 .left) (w .1))
       (c .if1 .came),
     )
@@ -70,7 +70,7 @@ returns : tie.Need-returns Inv-loop μ-loop
 returns c = 
     let start = c .before .before .before .before in
     changed-done (start .args .ws) _ (start .args .committed .now) (c .before .loop .d) _ (c .before .loop .inv .1)
-    (λ d l p. absurd (omega arith))
+    (λ d l p. omega arith)
 
 pub move-cards-spec : {M : Type 1} → statement M
 move-cards-spec =
