@@ -3,11 +3,13 @@ use mathlib.Core.Path.{_≡_, refl, sym, ap, ap₂, subst, _∙_}
 use mathlib.Core.Bool.{Bool, true, false, cond, not, _&&_, _||_}
 use mathlib.Core.List.{List, [], _∷_}
 use Prim.Native.Nat.{ℕ, zero, suc, _+_, _*_, _≤_, _<_}
+use native.Mathlib.Nat.{mul-le-mul-right, suc-mul}
 use native.Mathlib.Omega.{arith}
 use lib.Dec.{eqb, ltb}
 use lib.ListN.{length, getD, set}
 use borrow.Author.Tests.{ltb-true, ltb-false, eq-eqb, ne-eqb}
 use Rattle.objset.specs.Objset.{has, some, meeting}
+use Rattle.objset.proofs.Laws.{one-some}
 use Rattle.machine.specs.declared.Machine.{Machine}
 use Rattle.machine.specs.declared.Core.{Core}
 use Rattle.machine.specs.declared.Answer.the-variants.{Refused, Waits}
@@ -120,6 +122,10 @@ module _ (m : Machine) (s : sound m ≡ true) where
       go e l true p = h e (ltb-true e (m .cores) p)
       go e l false p = contender-idle m c e (stands m s .turns .lacked e l (ltb-false e (m .cores) p))
 
+  pub someone-ahead : (c e : ℕ) → e < 16 → contender m c e ≡ true → blocked m c ≡ true
+  unfolding blocked
+  someone-ahead c e l p = one-some 16 (contender m c) e l p
+
   -- setbacks are fewer than cores
   pub few-aborts : (e : ℕ) → e < 16 → coreAt m e .aborts < 255
   few-aborts e l = go (coreAt m e .active) refl
@@ -128,9 +134,23 @@ module _ (m : Machine) (s : sound m ≡ true) where
       go true on = omega (arith, stands m s .turns .bounded e l on, stands m s .few-cores)
       go false off = omega (arith, stands m s .tidy e l .idle-clear off .no-aborts)
 
-  -- a version is at most the commits, which are fewer than the tickets
-  pub version-below : (c : ℕ) → c < m .cores → coreAt m c .active ≡ true → (d : ℕ) → d < 64 → getD (m .versions) d 0 < m .tickets
-  version-below c h on d l = omega (arith, stands m s .versions-bounded d l, one-open m s c h on)
+  -- what raising the versions of core c's write set asks: the set lies within the machine's objects, and a version is at most
+  -- the commits, which are fewer than the tickets while a transaction is in progress
+  pub versions-ready : (c : ℕ) → c < m .cores → coreAt m c .active ≡ true → length (m .versions) ≡ 64 → m .tickets ≤ 4294967295
+      → (m .objects ≤ length (m .versions))
+      × (((d : ℕ) → d < length (m .versions) → has (coreAt m c .writes) d ≡ true → d < m .objects)
+      × ((d : ℕ) → d < m .objects → getD (m .versions) d 0 < 4294967295))
+  versions-ready c h on long fit = (
+    omega (arith, stands m s .few-objects),
+    (
+      λ d l p. stands m s .tidy c (core-place m s c h) .writes-within d (omega arith) p,
+      λ d l. omega (arith, stands m s .versions-bounded d (omega (arith, stands m s .few-objects)), one-open m s c h on),
+    ),
+  )
+
+-- the words of the pending table for core c lie within it
+pub row-within : (c cores objects : ℕ) → c < cores → c * objects + objects ≤ cores * objects
+row-within c cores objects h = omega (arith, mul-le-mul-right objects h, suc-mul c objects)
 
 -- ---- each way that commit can go
 

@@ -48,7 +48,7 @@ fn comes_before(b: Core, a: Core) -> bool
 fn contender_of(m: Machine, c: usize) -> Ahead
     requires { ⌜ sound m ≡ true ⌝ }
     requires { ⌜ c < 16 ⌝ }
-    ensures found { λ r. ⌜ ((e : ℕ) → r ≡ Ahead.At e → contender m c e ≡ true) ⌝ }
+    ensures found { λ r. ⌜ ((e : ℕ) → r ≡ Ahead.At e → (e < 16) × (contender m c e ≡ true)) ⌝ }
     ensures none { λ r. ⌜ (r ≡ Ahead.Nobody → blocked m c ≡ false) ⌝ }
 {
     let own = m.core[c];

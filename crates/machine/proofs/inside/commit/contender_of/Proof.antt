@@ -44,7 +44,15 @@ comes-before-requires c κs = search needs
 
 returns : tie.Need-returns Inv-loop μ-loop
 unfolding contender
-returns c = (λ e p. cc (sym (c .before .comes-before .ensures) ∙ c .if1 .taken), λ p. cc)
+returns c = (
+  λ e p.
+      let at : c .before .before .before .before .loop .e ≡ e = cc in
+      (
+        omega (arith, core-place _ (c .before .before .before .before .before .before .pre .0) _ (c .before .before .before .loop-test .taken)),
+        cc (sym (c .before .comes-before .ensures) ∙ c .if1 .taken),
+      ),
+  λ p. cc,
+)
 
 add-e : tie.Need-add-e Inv-loop μ-loop
 add-e c = search needs
@@ -58,7 +66,7 @@ loop-again c = (omega arith, below-more _ _ (c .before .before .before .before .
 
 returns-2 : tie.Need-returns-2 Inv-loop μ-loop
 returns-2 c = (
-  λ e p. cc,
+  λ e p. let no : _≡_ {A = ℕ} 0 1 = cc in absurd (omega arith),
   λ p. nobody-ahead _ (c .before .before .before .pre .0) _ (λ e l. c .before .loop .inv .1 e (omega arith)),
 )
 
