@@ -12,7 +12,7 @@ use Rattle.objset.specs.Objset.{has, some, meeting}
 use Rattle.objset.proofs.Laws.{one-some}
 use Rattle.machine.specs.declared.Machine.{Machine}
 use Rattle.machine.specs.declared.Core.{Core}
-use Rattle.machine.specs.declared.Answer.the-variants.{Refused, Waits}
+use Rattle.machine.specs.declared.Answer.the-variants.{Refused, Waits, Committed}
 use Rattle.machine.specs.Record.{noCore, coreAt, dataSet}
 use Rattle.machine.specs.Sound.{sound}
 use Rattle.machine.specs.Rule.{World, Result, unlessLent, misfit, wrongTables, inProgress, told, conflict, contender, blocked, aborted, struck, over, cleared, changed, through, waiting, commitRefusal, commit}
@@ -154,10 +154,6 @@ row-within c cores objects h = omega (arith, mul-le-mul-right objects h, suc-mul
 
 -- ---- each way that commit can go
 
-pub tables-fit : (cores objects : ℕ) (committed pending : List ℕ) → length committed ≡ objects → length pending ≡ cores * objects
-    → misfit cores objects committed pending ≡ false
-tables-fit cores objects committed pending p q = ap not (ap₂ _&&_ (eq-eqb _ _ p) (eq-eqb _ _ q))
-
 refused : (w : World) (r n : ℕ) (done : Result) → r ≡ suc n → record { answer = Refused (suc n); world = w } ≡ unlessLent r w done
 unfolding unlessLent
 refused w r n done e = sym (ap (λ (x : ℕ). unlessLent x w done) e)
@@ -166,7 +162,19 @@ accepted : (w : World) (r : ℕ) (done : Result) → r ≡ 0 → done ≡ unless
 unfolding unlessLent
 accepted w r done e = sym (ap (λ (x : ℕ). unlessLent x w done) e)
 
-module _ (w : World) (c : ℕ) (s : sound (w .machine) ≡ true) (fit : wrongTables w ≡ false) where
+-- a commit that goes through answers committed, and not waits
+pub through-never-waits : (w : World) (c : ℕ) (r : Result) → r ≡ through w c → (e : ℕ) → r .answer ≡ Waits e → ⊥
+unfolding through
+through-never-waits w c r p e q =
+    let done : r .answer ≡ Committed (coreAt (w .machine) c .aborts) = ap (λ (x : Result). x .answer) p in
+    let no : _≡_ {A = ℕ} 0 1 = cc in
+    omega arith
+
+module _ (w : World) (c : ℕ) (s : sound (w .machine) ≡ true) (committed-fits : length (w .committed) ≡ w .machine .objects)
+    (pending-fits : length (w .pending) ≡ w .machine .cores * w .machine .objects) where
+  fit : wrongTables w ≡ false
+  fit = ap not (ap₂ _&&_ (eq-eqb _ _ committed-fits) (eq-eqb _ _ pending-fits))
+
   pub commit-no-core : (e : ℕ) → w .machine .cores ≤ c → record { answer = Refused 4; world = w } ≡ commit e w c
   unfolding commit commitRefusal
   commit-no-core e h =

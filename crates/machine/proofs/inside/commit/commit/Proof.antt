@@ -5,7 +5,7 @@ use native.Mathlib.Omega.{arith}
 use Rattle.machine.specs.Answers.{named}
 use Rattle.machine.specs.Rule.{told}
 use Rattle.machine.proofs.Facts.{core-place}
-use Rattle.machine.proofs.CommitLaws.{someone-ahead, tables-fit, commit-no-core, commit-none, commit-told, commit-waits, commit-through}
+use Rattle.machine.proofs.CommitLaws.{someone-ahead, commit-no-core, commit-none, commit-told, commit-waits, commit-through, through-never-waits}
 use borrow.Author.Needs.{needs}
 use Rattle.machine.proofs.inside.commit.commit.Statement.{statement}
 use Rattle.machine.proofs.inside.commit.commit.Tie as tie
@@ -22,7 +22,7 @@ returns : tie.Need-returns
 returns c = 
     let start = c .before .before .before in
     (
-      commit-no-core _ _ (start .pre .0) (tables-fit _ _ _ _ (start .pre .1 .0) (start .pre .1 .1)) _ (c .if1 .taken),
+      commit-no-core _ _ (start .pre .0) (start .pre .1 .0) (start .pre .1 .1) _ (c .if1 .taken),
       λ e p. cc,
     )
 
@@ -47,7 +47,7 @@ returns-2 c =
     let start = c .before .before .before .before .before .before .before in
     (
       rw (c .without-mark .ensures)
-      (commit-told _ _ (start .pre .0) (tables-fit _ _ _ _ (start .pre .1 .0) (start .pre .1 .1)) (c .before .before .before .before .if1 .left) (c .before .before .if2 .taken) _
+      (commit-told _ _ (start .pre .0) (start .pre .1 .0) (start .pre .1 .1) (c .before .before .before .before .if1 .left) (c .before .before .if2 .taken) _
       (c .before .if3 .taken)),
       λ e p. cc,
     )
@@ -67,10 +67,17 @@ carry-through-requires c κs =
     (start .pre .0, (c .before .before .before .before .before .before .before .before .if1 .left, (c .before .before .before .before .before .before .if2 .taken, (start .pre .1 .0, start .pre .1 .1))))
 
 returns-3 : tie.Need-returns-3
+unfolding named
 returns-3 c = 
     let start = c .before .before .before .before .before .before .before .before .before .before in
-    let given = c .before .e .given in
-    ?
+    let e = c .before .e .given .0 .0 in
+    let held = c .before .before .before .contender-of .ensures .0 e (c .before .e .given .1) in
+    (
+      commit-waits _ _ (start .pre .0) (start .pre .1 .0) (start .pre .1 .1) (c .before .before .before .before .before .before .before .if1 .left)
+      (c .before .before .before .before .before .if2 .taken) (c .before .before .before .before .if3 .left) e
+      (someone-ahead (start .args .t1) (start .pre .0) (start .args .core) e (held .0) (held .1)),
+      λ f p. cc (held .1),
+    )
 
 same-length : tie.Need-same-length
 same-length c = search needs
@@ -81,14 +88,18 @@ same-length-2 c = search needs
 returns-4 : tie.Need-returns-4
 returns-4 c = 
     let start = c .before .before .before .before .before .before .before .before .before .before .before .before .before .before in
-    let given = c .before .before .before .before .before .enum-told .given in
-    ?
+    let nobody = c .before .before .before .before .before .before .before .contender-of .ensures .1 (c .before .before .before .before .before .enum-told .given .1) in
+    (
+      c .before .before .carry-through .ensures
+      ∙ commit-through _ _ (start .pre .0) (start .pre .1 .0) (start .pre .1 .1) (c .before .before .before .before .before .before .before .before .before .before .before .if1 .left) (c .before .before .before .before .before .before .before .before .before .if2 .taken) (c .before .before .before .before .before .before .before .before .if3 .left) _ nobody,
+      λ e p. absurd (through-never-waits _ _ _ (c .before .before .carry-through .ensures) e p),
+    )
 
 returns-5 : tie.Need-returns-5
 returns-5 c = 
     let start = c .before .before .before .before .before in
     (
-      commit-none _ _ (start .pre .0) (tables-fit _ _ _ _ (start .pre .1 .0) (start .pre .1 .1)) (c .before .before .if1 .left) _ (c .if2 .left),
+      commit-none _ _ (start .pre .0) (start .pre .1 .0) (start .pre .1 .1) (c .before .before .if1 .left) _ (c .if2 .left),
       λ e p. cc,
     )
 
