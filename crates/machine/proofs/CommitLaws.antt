@@ -1,11 +1,11 @@
 -- The laws of commit, over plain variables: what each function of it returns, and where its loops stand. Assumes nothing.
-use mathlib.Core.Path.{_≡_, refl, sym, ap, ap₂, subst, _∙_}
-use mathlib.Core.Bool.{Bool, true, false, cond, not, _&&_, _||_}
-use mathlib.Core.List.{List, [], _∷_}
+use mathlib.Core.Path.{_≡_, refl, sym, ap, ap₂, _∙_}
+use mathlib.Core.Bool.{Bool, true, false, not, _&&_, _||_}
+use mathlib.Core.List.{List}
 use Prim.Native.Nat.{ℕ, zero, suc, _+_, _*_, _≤_, _<_}
 use native.Mathlib.Nat.{mul-le-mul-right, suc-mul}
 use native.Mathlib.Omega.{arith}
-use lib.Dec.{eqb, ltb}
+use lib.Dec.{ltb}
 use lib.ListN.{length, getD, set}
 use borrow.Author.Tests.{ltb-true, ltb-false, eq-eqb, ne-eqb}
 use Rattle.objset.specs.Objset.{has, some, meeting}
@@ -15,7 +15,7 @@ use Rattle.machine.specs.declared.Core.{Core}
 use Rattle.machine.specs.declared.Answer.the-variants.{Refused, Waits, Committed}
 use Rattle.machine.specs.Record.{noCore, coreAt, dataSet}
 use Rattle.machine.specs.Sound.{sound}
-use Rattle.machine.specs.Rule.{World, Result, unlessLent, misfit, wrongTables, inProgress, told, conflict, contender, blocked, aborted, struck, over, cleared, changed, through, waiting, commitRefusal, commit}
+use Rattle.machine.specs.Rule.{World, Result, unlessLent, wrongTables, told, conflict, contender, blocked, aborted, struck, over, cleared, changed, through, waiting, commitRefusal, commit}
 use Rattle.machine.proofs.Entries.{cleared-at, cleared-long, changed-at, changed-long}
 use Rattle.machine.proofs.Facts.{stands, core-place, one-open}
 use Rattle.machine.proofs.CallLaws.{skips, hits, none-holds, is-sound, a-core, no-core}

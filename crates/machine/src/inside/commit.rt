@@ -16,7 +16,7 @@ ghost use Rattle.machine.specs.Rule.{conflict, contender, blocked, unmar
 ghost use Rattle.machine.specs.Rule.{commit as commitRule};
 
 // Who holds a transaction back: the core of a conflicting transaction with a smaller ticket, or nobody.
-pub enum Ahead {
+enum Ahead {
     At(u8),
     Nobody,
 }
@@ -31,8 +31,8 @@ fn conflict_of(a: Core, b: Core) -> bool
     objset::meets(b.writes, objset::union(a.reads, a.writes))
 }
 
-// Whether core b holds a transaction with a smaller ticket than core a's that conflicts with it.
-fn comes_before(b: Core, a: Core) -> bool
+// Whether core b holds a conflicting transaction with a smaller ticket than core a's.
+fn holds_back(b: Core, a: Core) -> bool
     ensures { λ r. ⌜ r ≡ (b .active && ltb (b .ticket) (a .ticket) && conflict a b) ⌝ }
 {
     if b.active {
@@ -55,7 +55,7 @@ fn contender_of(m: Machine, c: usize) -> Ahead
     let mut e: u8 = 0;
     while e < m.cores {
         let other = m.core[e as usize];
-        if comes_before(other, own) {
+        if holds_back(other, own) {
             return Ahead::At(e);
         }
         e += 1;

@@ -1,19 +1,11 @@
 -- `machine::inside::commit::carry_through` meets its contract. Assumes nothing.
-use mathlib.Core.Path.{_≡_, refl, sym, ap, _∙_}
-use Prim.Native.Nat.{ℕ, _+_, _≤_}
 use native.Mathlib.Omega.{arith}
-use lib.ListN.{length}
 use Rattle.machine.specs.Rule.{through}
 use Rattle.machine.proofs.Facts.{stands, core-place, one-open}
 use Rattle.machine.proofs.CommitLaws.{few-aborts, versions-ready, row-within}
 use borrow.Author.Needs.{needs}
 use Rattle.machine.proofs.inside.commit.carry_through.Statement.{statement}
 use Rattle.machine.proofs.inside.commit.carry_through.Tie as tie
-use Rattle.machine.proofs.inside.commit.carry_through.Reads as reads
-use Rattle.machine.proofs.inside.commit.carry_through.Lts as lts
-use Rattle.machine.proofs.inside.commit.cores_after.Reads as cores-after-reads
-use Rattle.machine.proofs.inside.commit.move_cards.Reads as move-cards-reads
-use Rattle.machine.proofs.inside.commit.raise_versions.Reads as raise-versions-reads
 
 cast-objects : tie.Need-cast-objects
 cast-objects c = search needs

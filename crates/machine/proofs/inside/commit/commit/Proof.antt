@@ -1,7 +1,5 @@
 -- `machine::inside::commit::commit` meets its contract. Assumes nothing.
-use mathlib.Core.Path.{_≡_, refl, sym, ap, _∙_}
-use Prim.Native.Nat.{ℕ}
-use native.Mathlib.Omega.{arith}
+use mathlib.Core.Path.{_∙_}
 use Rattle.machine.specs.Answers.{named}
 use Rattle.machine.specs.Rule.{told}
 use Rattle.machine.proofs.Facts.{core-place}
@@ -9,11 +7,6 @@ use Rattle.machine.proofs.CommitLaws.{someone-ahead, commit-no-core, co
 use borrow.Author.Needs.{needs}
 use Rattle.machine.proofs.inside.commit.commit.Statement.{statement}
 use Rattle.machine.proofs.inside.commit.commit.Tie as tie
-use Rattle.machine.proofs.inside.commit.commit.Reads as reads
-use Rattle.machine.proofs.inside.commit.commit.Lts as lts
-use Rattle.machine.proofs.inside.commit.carry_through.Reads as carry-through-reads
-use Rattle.machine.proofs.inside.commit.contender_of.Reads as contender-of-reads
-use Rattle.machine.proofs.inside.commit.without_mark.Reads as without-mark-reads
 
 cast-if1 : tie.Need-cast-if1
 cast-if1 c = search needs

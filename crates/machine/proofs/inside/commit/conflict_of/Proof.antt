@@ -4,10 +4,6 @@ use Rattle.machine.proofs.CommitLaws.{conflict-left, conflict-right}
 use borrow.Author.Needs.{needs}
 use Rattle.machine.proofs.inside.commit.conflict_of.Statement.{statement}
 use Rattle.machine.proofs.inside.commit.conflict_of.Tie as tie
-use Rattle.machine.proofs.inside.commit.conflict_of.Reads as reads
-use Rattle.machine.proofs.inside.commit.conflict_of.Lts as lts
-use Rattle.objset.proofs.meets.Reads as meets-reads
-use Rattle.objset.proofs.union.Reads as union-reads
 
 union-requires : tie.Need-union-requires
 union-requires c κs = search needs

@@ -1,8 +1,8 @@
 -- `machine::inside::commit::contender_of` meets its contract. No core that was passed holds the transaction back.
 -- Assumes nothing.
-use mathlib.Core.Path.{_≡_, refl, sym, ap, _∙_}
-use mathlib.Core.Bool.{Bool, true, false}
-use Prim.Native.Nat.{ℕ, _+_, _-_, _≤_, _<_}
+use mathlib.Core.Path.{_≡_, sym, _∙_}
+use mathlib.Core.Bool.{false}
+use Prim.Native.Nat.{ℕ, _-_, _≤_, _<_}
 use native.Mathlib.Omega.{arith}
 use borrow.Author.Needs.{needs}
 use borrow.Author.Count.{below-none, below-more}
@@ -11,9 +11,6 @@ use Rattle.machine.proofs.Facts.{core-place}
 use Rattle.machine.proofs.CommitLaws.{nobody-ahead}
 use Rattle.machine.proofs.inside.commit.contender_of.Statement.{statement}
 use Rattle.machine.proofs.inside.commit.contender_of.Tie as tie
-use Rattle.machine.proofs.inside.commit.contender_of.Reads as reads
-use Rattle.machine.proofs.inside.commit.contender_of.Lts as lts
-use Rattle.machine.proofs.inside.commit.comes_before.Reads as comes-before-reads
 
 abbrev Inv-loop : tie.InvT-loop
 Inv-loop c m own e₀ e = (e ≤ m .cores) × ((k : ℕ) → k < e → contender m c k ≡ false)
@@ -39,8 +36,8 @@ mul-other c = search needs
 element-copy-out-other : tie.Need-element-copy-out-other Inv-loop μ-loop
 element-copy-out-other c = core-place _ (c .before .before .before .pre .0) _ (c .loop-test .taken)
 
-comes-before-requires : tie.Need-comes-before-requires Inv-loop μ-loop
-comes-before-requires c κs = search needs
+holds-back-requires : tie.Need-holds-back-requires Inv-loop μ-loop
+holds-back-requires c κs = search needs
 
 returns : tie.Need-returns Inv-loop μ-loop
 unfolding contender
@@ -49,7 +46,7 @@ returns c = (
       let at : c .before .before .before .before .loop .e ≡ e = cc in
       (
         omega (arith, core-place _ (c .before .before .before .before .before .before .pre .0) _ (c .before .before .before .loop-test .taken)),
-        cc (sym (c .before .comes-before .ensures) ∙ c .if1 .taken),
+        cc (sym (c .before .holds-back .ensures) ∙ c .if1 .taken),
       ),
   λ p. cc,
 )
@@ -62,7 +59,7 @@ loop-less c = search needs
 
 loop-again : tie.Need-loop-again Inv-loop μ-loop
 unfolding contender
-loop-again c = (omega arith, below-more _ _ (c .before .before .before .before .loop .inv .1) (sym (c .before .comes-before .ensures) ∙ c .if1 .left))
+loop-again c = (omega arith, below-more _ _ (c .before .before .before .before .loop .inv .1) (sym (c .before .holds-back .ensures) ∙ c .if1 .left))
 
 returns-2 : tie.Need-returns-2 Inv-loop μ-loop
 returns-2 c = (
@@ -82,7 +79,7 @@ contender-of-spec =
     cast-other
     mul-other
     element-copy-out-other
-    comes-before-requires
+    holds-back-requires
     returns
     add-e
     loop-less

@@ -1,20 +1,16 @@
 -- `machine::inside::commit::cores_after` meets its contract. After the turn of core e, the first e + 1 cores are as the commit leaves them.
 -- Assumes nothing.
-use mathlib.Core.Path.{_≡_, refl, sym, ap, _∙_}
+use mathlib.Core.Path.{_≡_, refl, ap, _∙_}
 use mathlib.Core.Logic.{⊎-elim}
-use Prim.Native.Nat.{ℕ, _+_, _-_, _≤_, _<_}
+use Prim.Native.Nat.{_+_, _-_, _≤_}
 use native.Mathlib.Omega.{arith}
-use lib.ListN.{length, getD, set}
+use lib.ListN.{length, set}
 use borrow.Author.Needs.{needs}
 use Rattle.machine.specs.Rule.{cleared}
 use Rattle.machine.proofs.Front.{Stands}
 use Rattle.machine.proofs.CommitLaws.{cleared-next, cleared-own, cleared-other, cleared-done}
 use Rattle.machine.proofs.inside.commit.cores_after.Statement.{statement}
 use Rattle.machine.proofs.inside.commit.cores_after.Tie as tie
-use Rattle.machine.proofs.inside.commit.cores_after.Reads as reads
-use Rattle.machine.proofs.inside.commit.cores_after.Lts as lts
-use Rattle.machine.proofs.inside.commit.struck_by.Reads as struck-by-reads
-use Rattle.machine.proofs.inside.commit.without_transaction.Reads as without-transaction-reads
 
 abbrev Inv-loop : tie.InvT-loop
 Inv-loop n c ws after₀ e₀ after e = (e ≤ n) × Stands e (cleared ws c 0 after₀) after₀ after

@@ -1,8 +1,8 @@
 -- `machine::inside::commit::move_cards` meets its contract. After the turn of object d, the committed table holds the new values of the first d + 1.
 -- Assumes nothing.
-use mathlib.Core.Path.{_≡_, refl, sym, ap, _∙_}
+use mathlib.Core.Path.{refl, sym, _∙_}
 use mathlib.Core.Logic.{⊎-elim}
-use Prim.Native.Nat.{ℕ, _+_, _-_, _≤_, _<_}
+use Prim.Native.Nat.{ℕ, _+_, _-_, _≤_}
 use native.Mathlib.Omega.{arith}
 use lib.ListN.{length, getD}
 use borrow.Author.Needs.{needs}
@@ -11,9 +11,6 @@ use Rattle.machine.proofs.Front.{Stands}
 use Rattle.machine.proofs.CommitLaws.{changed-stored, changed-kept, changed-done}
 use Rattle.machine.proofs.inside.commit.move_cards.Statement.{statement}
 use Rattle.machine.proofs.inside.commit.move_cards.Tie as tie
-use Rattle.machine.proofs.inside.commit.move_cards.Reads as reads
-use Rattle.machine.proofs.inside.commit.move_cards.Lts as lts
-use Rattle.objset.proofs.contains.Reads as contains-reads
 
 abbrev Inv-loop : tie.InvT-loop
 Inv-loop ws base committed₀ pending d₀ committed d = (d ≤ length committed₀) × Stands d (changed ws (λ e v. getD pending (base + e) 0) 0 committed₀) committed₀ committed

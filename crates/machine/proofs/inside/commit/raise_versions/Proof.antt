@@ -1,19 +1,15 @@
 -- `machine::inside::commit::raise_versions` meets its contract. After the turn of object d, the versions of the first d + 1 are
 -- the new ones. Assumes nothing.
-use mathlib.Core.Path.{_≡_, refl, sym, _∙_}
+use mathlib.Core.Path.{refl, sym, _∙_}
 use mathlib.Core.Logic.{⊎-elim}
-use Prim.Native.Nat.{ℕ, _+_, _-_, _≤_}
+use Prim.Native.Nat.{_+_, _-_, _≤_}
 use native.Mathlib.Omega.{arith}
-use lib.ListN.{length, getD}
 use borrow.Author.Needs.{needs}
 use Rattle.machine.specs.Rule.{changed}
 use Rattle.machine.proofs.Front.{Stands}
 use Rattle.machine.proofs.CommitLaws.{changed-next, changed-stored, changed-kept, changed-done}
 use Rattle.machine.proofs.inside.commit.raise_versions.Statement.{statement}
 use Rattle.machine.proofs.inside.commit.raise_versions.Tie as tie
-use Rattle.machine.proofs.inside.commit.raise_versions.Reads as reads
-use Rattle.machine.proofs.inside.commit.raise_versions.Lts as lts
-use Rattle.objset.proofs.contains.Reads as contains-reads
 
 abbrev Inv-loop : tie.InvT-loop
 Inv-loop ws n versions₀ d₀ versions d = (d ≤ n) × Stands d (changed ws (λ e v. v + 1) 0 versions₀) versions₀ versions

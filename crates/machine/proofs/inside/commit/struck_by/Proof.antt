@@ -4,10 +4,6 @@ use Rattle.machine.proofs.CommitLaws.{struck-hit, struck-missed, struck
 use borrow.Author.Needs.{needs}
 use Rattle.machine.proofs.inside.commit.struck_by.Statement.{statement}
 use Rattle.machine.proofs.inside.commit.struck_by.Tie as tie
-use Rattle.machine.proofs.inside.commit.struck_by.Reads as reads
-use Rattle.machine.proofs.inside.commit.struck_by.Lts as lts
-use Rattle.objset.proofs.meets.Reads as meets-reads
-use Rattle.objset.proofs.union.Reads as union-reads
 
 union-requires : tie.Need-union-requires
 union-requires c κs = search needs
