@@ -6,6 +6,8 @@ mod AccessLaws
 mod DoorLaws
 mod JobCalls
 mod Facts
+mod Front
+mod CommitLaws
 pub mod Case
 pub mod CanFollow
 pub mod Sound

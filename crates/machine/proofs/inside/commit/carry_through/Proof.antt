@@ -1,0 +1,82 @@
+-- `machine::inside::commit::carry_through` meets its contract. Assumes nothing.
+use native.Mathlib.Omega.{arith}
+use Rattle.machine.specs.Rule.{through}
+use Rattle.machine.proofs.Facts.{stands, core-place, one-open}
+use Rattle.machine.proofs.CommitLaws.{few-aborts, versions-ready, row-within}
+use borrow.Author.Needs.{needs}
+use Rattle.machine.proofs.inside.commit.carry_through.Statement.{statement}
+use Rattle.machine.proofs.inside.commit.carry_through.Tie as tie
+
+cast-objects : tie.Need-cast-objects
+cast-objects c = search needs
+
+mul-own : tie.Need-mul-own
+mul-own c = search needs
+
+element-copy-out-own : tie.Need-element-copy-out-own
+element-copy-out-own c = core-place _ (c .before .before .pre .0) _ (c .before .before .pre .1 .0)
+
+mul-move-cards : tie.Need-mul-move-cards
+mul-move-cards c = 
+    let start = c .before .before .before in
+    omega (arith, row-within (start .args .c) (start .args .t1 .cores) (start .args .t1 .objects) (start .pre .1 .0))
+
+move-cards-requires : tie.Need-move-cards-requires
+move-cards-requires c κs = 
+    let start = c .before .before .before .before in
+    omega (arith, row-within (start .args .c) (start .args .t1 .cores) (start .args .t1 .objects) (start .pre .1 .0))
+
+slice-aggregate-raise-versions : tie.Need-slice-aggregate-raise-versions
+slice-aggregate-raise-versions c = search needs
+
+raise-versions-requires : tie.Need-raise-versions-requires
+raise-versions-requires c κs = 
+    let start = c .before .before .before .before .before .before .before .before .before in
+    let m = start .args .t1 in
+    versions-ready m (start .pre .0) (start .args .c) (start .pre .1 .0) (start .pre .1 .1 .0) (search needs) (omega arith)
+
+cast-cores-after : tie.Need-cast-cores-after
+cast-cores-after c = search needs
+
+cores-after-requires : tie.Need-cores-after-requires
+cores-after-requires c κs = 
+    let start = c .before .before .before .before .before .before .before .before .before .before .before .before in
+    let m = start .args .t1 in
+    (
+      stands m (start .pre .0) .few-cores,
+      (start .pre .1 .0, (few-aborts m (start .pre .0), λ e l p. stands m (start .pre .0) .turns .lacked e l p)),
+    )
+
+add-t26 : tie.Need-add-t26
+add-t26 c = 
+    let start = c .before .before .before .before .before .before .before .before .before .before .before .before .before in
+    omega (arith, one-open (start .args .t1) (start .pre .0) (start .args .c) (start .pre .1 .0) (start .pre .1 .1 .0))
+
+same-length : tie.Need-same-length
+same-length c = search needs
+
+returns : tie.Need-returns
+unfolding through
+returns c =
+    rw (
+      c .cores-after .ensures,
+      c .before .before .before .raise-versions .ensures,
+      c .before .before .before .before .before .before .before .before .move-cards .ensures,
+    )
+
+pub carry-through-spec : {M : Type 1} → statement M
+carry-through-spec =
+    tie.close
+    (tie.spec
+    cast-objects
+    mul-own
+    element-copy-out-own
+    mul-move-cards
+    move-cards-requires
+    slice-aggregate-raise-versions
+    raise-versions-requires
+    cast-cores-after
+    cores-after-requires
+    add-t26
+    same-length
+    returns)

@@ -1,0 +1,100 @@
+-- `machine::inside::commit::cores_after` meets its contract. After the turn of core e, the first e + 1 cores are as the commit leaves them.
+-- Assumes nothing.
+use mathlib.Core.Path.{_≡_, refl, ap, _∙_}
+use mathlib.Core.Logic.{⊎-elim}
+use Prim.Native.Nat.{_+_, _-_, _≤_}
+use native.Mathlib.Omega.{arith}
+use lib.ListN.{length, set}
+use borrow.Author.Needs.{needs}
+use Rattle.machine.specs.Rule.{cleared}
+use Rattle.machine.proofs.Front.{Stands}
+use Rattle.machine.proofs.CommitLaws.{cleared-next, cleared-own, cleared-other, cleared-done}
+use Rattle.machine.proofs.inside.commit.cores_after.Statement.{statement}
+use Rattle.machine.proofs.inside.commit.cores_after.Tie as tie
+
+abbrev Inv-loop : tie.InvT-loop
+Inv-loop n c ws after₀ e₀ after e = (e ≤ n) × Stands e (cleared ws c 0 after₀) after₀ after
+
+abbrev μ-loop : tie.MeasureT-loop
+μ-loop n c ws after₀ e₀ after e = n - e
+
+loop-holds : tie.Need-loop-holds Inv-loop μ-loop
+loop-holds c = (omega arith, (refl, refl))
+
+mul-k : tie.Need-mul-k Inv-loop μ-loop
+mul-k c = search needs
+
+array-copy-out-k : tie.Need-array-copy-out-k Inv-loop μ-loop
+array-copy-out-k c = search needs
+
+without-transaction-requires : tie.Need-without-transaction-requires Inv-loop μ-loop
+without-transaction-requires c κs = search needs
+
+mul-after : tie.Need-mul-after Inv-loop μ-loop
+mul-after c = search needs
+
+array-set-from-after : tie.Need-array-set-from-after Inv-loop μ-loop
+array-set-from-after c = search needs
+
+struck-by-requires : tie.Need-struck-by-requires Inv-loop μ-loop
+struck-by-requires c κs =
+    let start = c .before .before .before .before in
+    let at = c .before .before .before .loop in
+    let long : length (start .args .cores) ≡ 16 = search needs in
+    rw (cleared-next (start .args .ws) (start .args .c) (start .args .cores) (at .e) (at .after) (at .inv .1) (omega arith))
+    (start .pre .1 .1 .0 (at .e) (omega arith))
+
+mul-after-2 : tie.Need-mul-after-2 Inv-loop μ-loop
+mul-after-2 c = search needs
+
+array-set-from-after-2 : tie.Need-array-set-from-after-2 Inv-loop μ-loop
+array-set-from-after-2 c = search needs
+
+add-e : tie.Need-add-e Inv-loop μ-loop
+add-e c = search needs
+
+loop-less : tie.Need-loop-less Inv-loop μ-loop
+loop-less c = search needs
+
+loop-again : tie.Need-loop-again Inv-loop μ-loop
+loop-again c =
+    let start = c .before .before .before .before in
+    let at = c .before .before .before .loop in
+    let long : length (start .args .cores) ≡ 16 = search needs in
+    (
+      omega arith,
+      ⊎-elim
+      (λ w. cleared-own (start .args .ws) (start .args .c) (start .args .cores) (at .e) (at .after) (at .inv .1) (omega arith) _ (w .0 .taken)
+      (w .2 ∙ ap (set (at .after) (at .e)) (w .1 .ensures)))
+      (λ w. cleared-other (start .args .ws) (start .args .c) (start .args .cores) (at .e) (at .after) (at .inv .1) (omega arith) _ (w .0 .left)
+      (w .2 ∙ ap (set (at .after) (at .e)) (w .1 .ensures)))
+      (c .if1 .came),
+    )
+
+returns : tie.Need-returns Inv-loop μ-loop
+returns c =
+    let start = c .before .before in
+    let long : length (start .args .cores) ≡ 16 = search needs in
+    let all : c .before .loop .e ≡ start .args .n = omega arith in
+    cleared-done (start .args .ws) (start .args .c) (start .args .cores) (c .before .loop .e) _ (c .before .loop .inv .1) (omega arith)
+    (λ e l p. start .pre .1 .1 .1 e (omega arith) (omega arith))
+
+pub cores-after-spec : {M : Type 1} → statement M
+cores-after-spec =
+    tie.close
+    (tie.spec
+    Inv-loop
+    μ-loop
+    loop-holds
+    mul-k
+    array-copy-out-k
+    without-transaction-requires
+    mul-after
+    array-set-from-after
+    struck-by-requires
+    mul-after-2
+    array-set-from-after-2
+    add-e
+    loop-less
+    loop-again
+    returns)

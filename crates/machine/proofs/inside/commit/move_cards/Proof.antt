@@ -1,0 +1,89 @@
+-- `machine::inside::commit::move_cards` meets its contract. After the turn of object d, the committed table holds the new values of the first d + 1.
+-- Assumes nothing.
+use mathlib.Core.Path.{refl, sym, _∙_}
+use mathlib.Core.Logic.{⊎-elim}
+use Prim.Native.Nat.{ℕ, _+_, _-_, _≤_}
+use native.Mathlib.Omega.{arith}
+use lib.ListN.{length, getD}
+use borrow.Author.Needs.{needs}
+use Rattle.machine.specs.Rule.{changed}
+use Rattle.machine.proofs.Front.{Stands}
+use Rattle.machine.proofs.CommitLaws.{changed-stored, changed-kept, changed-done}
+use Rattle.machine.proofs.inside.commit.move_cards.Statement.{statement}
+use Rattle.machine.proofs.inside.commit.move_cards.Tie as tie
+
+abbrev Inv-loop : tie.InvT-loop
+Inv-loop ws base committed₀ pending d₀ committed d = (d ≤ length committed₀) × Stands d (changed ws (λ e v. getD pending (base + e) 0) 0 committed₀) committed₀ committed
+
+abbrev μ-loop : tie.MeasureT-loop
+μ-loop ws base committed₀ pending d₀ committed d = length committed₀ - d
+
+loop-holds : tie.Need-loop-holds Inv-loop μ-loop
+loop-holds c = (omega arith, (refl, refl))
+
+contains-requires : tie.Need-contains-requires Inv-loop μ-loop
+contains-requires c κs = search needs
+
+add-committed : tie.Need-add-committed Inv-loop μ-loop
+add-committed c = search needs
+
+mul-committed : tie.Need-mul-committed Inv-loop μ-loop
+mul-committed c = search needs
+
+shared-slice-read-committed : tie.Need-shared-slice-read-committed Inv-loop μ-loop
+shared-slice-read-committed c = search needs
+
+mul-committed-2 : tie.Need-mul-committed-2 Inv-loop μ-loop
+mul-committed-2 c = search needs
+
+slice-write-committed : tie.Need-slice-write-committed Inv-loop μ-loop
+slice-write-committed c = search needs
+
+add-d : tie.Need-add-d Inv-loop μ-loop
+add-d c = search needs
+
+loop-less : tie.Need-loop-less Inv-loop μ-loop
+loop-less c = search needs
+
+loop-again : tie.Need-loop-again Inv-loop μ-loop
+loop-again c = 
+    let start = c .before .before .before .before .before .before in
+    let at = c .before .before .before .loop in
+    let moved : ℕ → ℕ → ℕ = λ d v. getD (start .args .pending .now) (start .args .base + d) 0 in
+    (
+      omega arith,
+      ⊎-elim
+      (λ w. changed-stored (start .args .ws) moved (start .args .committed .now) (at .d) (at .committed) (at .inv .1) (omega arith) _
+      (sym (c .before .contains .ensures) ∙ w .0 .taken) (w .2))
+      (λ w. changed-kept (start .args .ws) moved (start .args .committed .now) (at .d) (at .committed) (at .inv .1) (omega arith) _
+      (sym (c .before .contains .ensures) ∙ w .0 .left) (w .1))
+      (c .if1 .came),
+    )
+
+same-length : tie.Need-same-length Inv-loop μ-loop
+same-length c = c .before .loop .inv .1 .0
+
+returns : tie.Need-returns Inv-loop μ-loop
+returns c = 
+    let start = c .before .before .before .before in
+    changed-done (start .args .ws) _ (start .args .committed .now) (c .before .loop .d) _ (c .before .loop .inv .1)
+    (λ d l p. omega arith)
+
+pub move-cards-spec : {M : Type 1} → statement M
+move-cards-spec =
+    tie.close
+    (tie.spec
+    Inv-loop
+    μ-loop
+    loop-holds
+    contains-requires
+    add-committed
+    mul-committed
+    shared-slice-read-committed
+    mul-committed-2
+    slice-write-committed
+    add-d
+    loop-less
+    loop-again
+    same-length
+    returns)

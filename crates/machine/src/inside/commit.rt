@@ -1,0 +1,255 @@
+// A transaction commits (document 01: commit). Assumes nothing.
+use crate::Answer;
+use crate::Core;
+use crate::Machine;
+use crate::Outcome;
+ghost use mathlib.Core.Path.{_≡_};
+ghost use mathlib.Core.Bool.{true, false, _&&_};
+ghost use Prim.Native.Nat.{ℕ, _+_, _*_, _≤_, _<_};
+ghost use lib.Dec.{ltb};
+ghost use lib.ListN.{length, getD};
+ghost use Rattle.objset.specs.Objset.{has};
+ghost use Rattle.machine.specs.Record.{noCore, coreAt};
+ghost use Rattle.machine.specs.Sound.{sound};
+ghost use Rattle.machine.specs.Answers.{named};
+ghost use Rattle.machine.specs.Rule.{conflict, contender, blocked, unmarked, struck, over, cleared, changed, through};
+ghost use Rattle.machine.specs.Rule.{commit as commitRule};
+
+// Who holds a transaction back: the core of a conflicting transaction with a smaller ticket, or nobody.
+enum Ahead {
+    At(u8),
+    Nobody,
+}
+
+// Whether two transactions conflict: the write set of either meets the data set of the other.
+fn conflict_of(a: Core, b: Core) -> bool
+    ensures { λ r. ⌜ r ≡ conflict a b ⌝ }
+{
+    if objset::meets(a.writes, objset::union(b.reads, b.writes)) {
+        return true;
+    }
+    objset::meets(b.writes, objset::union(a.reads, a.writes))
+}
+
+// Whether core b holds a conflicting transaction with a smaller ticket than core a's.
+fn holds_back(b: Core, a: Core) -> bool
+    ensures { λ r. ⌜ r ≡ (b .active && ltb (b .ticket) (a .ticket) && conflict a b) ⌝ }
+{
+    if b.active {
+        if b.ticket < a.ticket {
+            return conflict_of(a, b);
+        }
+        return false;
+    }
+    false
+}
+
+// The first core that holds a conflicting transaction with a smaller ticket than core c's, if there is one.
+fn contender_of(m: Machine, c: usize) -> Ahead
+    requires { ⌜ sound m ≡ true ⌝ }
+    requires { ⌜ c < 16 ⌝ }
+    ensures found { λ r. ⌜ ((e : ℕ) → r ≡ Ahead.At e → (e < 16) × (contender m c e ≡ true)) ⌝ }
+    ensures none { λ r. ⌜ (r ≡ Ahead.Nobody → blocked m c ≡ false) ⌝ }
+{
+    let own = m.core[c];
+    let mut e: u8 = 0;
+    while e < m.cores {
+        let other = m.core[e as usize];
+        if holds_back(other, own) {
+            return Ahead::At(e);
+        }
+        e += 1;
+    }
+    Ahead::Nobody
+}
+
+// Core k with its transaction's mark taken away, and all else as it was.
+fn without_mark(k: Core) -> Core
+    ensures { λ r. ⌜ r ≡ unmarked k ⌝ }
+{
+    let mut told = k;
+    told.zombie = false;
+    told
+}
+
+// Core k with its jobs and no transaction.
+fn without_transaction(k: Core) -> Core
+    ensures { λ r. ⌜ r ≡ over k ⌝ }
+{
+    let jobs = k.jobs;
+    Core {
+        jobs,
+        count: k.count,
+        active: false,
+        owner: 0,
+        ticket: 0,
+        aborts: 0,
+        zombie: false,
+        reads: 0,
+        writes: 0,
+    }
+}
+
+// Core k after another's commit of the write set ws: a transaction whose data set meets ws is aborted and marked, with
+// empty sets and one setback more; any other core is as it was.
+fn struck_by(ws: u64, k: Core) -> Core
+    requires { ⌜ k .aborts < 255 ⌝ }
+    ensures { λ r. ⌜ r ≡ struck ws k ⌝ }
+{
+    if k.active {
+        if objset::meets(ws, objset::union(k.reads, k.writes)) {
+            let jobs = k.jobs;
+            return Core {
+                jobs,
+                count: k.count,
+                active: k.active,
+                owner: k.owner,
+                ticket: k.ticket,
+                aborts: k.aborts + 1,
+                zombie: true,
+                reads: 0,
+                writes: 0,
+            };
+        }
+        return k;
+    }
+    k
+}
+
+// The cores after the commit of core c with the write set ws: c has no transaction, every other is struck. Only the first
+// n are looked at: no other has a transaction.
+fn cores_after(cores: [Core; 16], n: usize, c: usize, ws: u64) -> [Core; 16]
+    requires { ⌜ n ≤ 16 ⌝ }
+    requires { ⌜ c < n ⌝ }
+    requires { ⌜ ((e : ℕ) → e < 16 → getD cores e noCore .aborts < 255) ⌝ }
+    requires { ⌜ ((e : ℕ) → e < 16 → n ≤ e → getD cores e noCore .active ≡ false) ⌝ }
+    ensures { λ r. ⌜ r ≡ cleared ws c 0 cores ⌝ }
+{
+    let mut after = cores;
+    let mut e = 0;
+    while e < n {
+        let k = after[e];
+        if e == c {
+            after[e] = without_transaction(k);
+        } else {
+            after[e] = struck_by(ws, k);
+        }
+        e += 1;
+    }
+    after
+}
+
+// Raises the version of each object in the write set ws by one. Only the first n are looked at: ws holds no other.
+fn raise_versions(ws: u64, n: usize, versions: &mut [u32])
+    requires { ⌜ n ≤ length (now versions) ⌝ }
+    requires { ⌜ ((d : ℕ) → d < length (now versions) → has ws d ≡ true → d < n) ⌝ }
+    requires { ⌜ ((d : ℕ) → d < n → getD (now versions) d 0 < 4294967295) ⌝ }
+    ensures { λ r. ⌜ now (versions .exit) ≡ changed ws (λ d v. v + 1) 0 (now (versions .entry)) ⌝ }
+{
+    let mut d = 0;
+    while d < n {
+        if objset::contains(ws, d) {
+            versions[d] = versions[d] + 1;
+        }
+        d += 1;
+    }
+}
+
+// Moves the pending value of each object in the write set ws into the committed table; the others keep theirs. The pending
+// values of the core start at base.
+fn move_cards(ws: u64, base: usize, committed: &mut [u32], pending: &[u32])
+    requires { ⌜ base + length (now committed) ≤ length (now pending) ⌝ }
+    ensures { λ r. ⌜ now (committed .exit) ≡ changed ws (λ d v. getD (now (pending .entry)) (base + d) 0) 0 (now (committed .entry)) ⌝ }
+{
+    let mut d = 0;
+    while d < committed.len() {
+        if objset::contains(ws, d) {
+            committed[d] = pending[base + d];
+        }
+        d += 1;
+    }
+}
+
+// The transaction of core c, which nobody holds back, commits: it ends, its write set's pending values become committed and
+// their versions rise by one, and every transaction whose data set meets the write set is aborted. The pending table keeps
+// every word.
+fn carry_through(m: Machine, c: usize, committed: &mut [u32], pending: &[u32]) -> Outcome
+    requires { ⌜ sound m ≡ true ⌝ }
+    requires { ⌜ c < m .cores ⌝ }
+    requires { ⌜ coreAt m c .active ≡ true ⌝ }
+    requires { ⌜ length (now committed) ≡ m .objects ⌝ }
+    requires { ⌜ length (now pending) ≡ m .cores * m .objects ⌝ }
+    ensures {
+        λ r. ⌜ record {
+          answer = r .answer;
+          world = record { machine = r .machine; committed = now (committed .exit); pending = now (pending .entry) };
+        } ≡ through (record { machine = m; committed = now (committed .entry); pending = now (pending .entry) }) c ⌝
+    }
+{
+    let objects = m.objects as usize;
+    let own = m.core[c];
+    move_cards(own.writes, c * objects, committed, pending);
+    let mut versions = m.versions;
+    raise_versions(own.writes, objects, &mut versions);
+    let cores = m.core;
+    let core = cores_after(cores, m.cores as usize, c, own.writes);
+    Outcome {
+        answer: Answer::Committed(own.aborts),
+        machine: Machine {
+            cores: m.cores,
+            objects: m.objects,
+            tickets: m.tickets,
+            commits: m.commits + 1,
+            give_ups: m.give_ups,
+            core,
+            versions,
+        },
+    }
+}
+
+// Commits the transaction of a core. Refused where there is no such core (4) or it has no transaction (9); a marked
+// transaction is told that it was set back, and loses its mark; one that conflicts with a smaller ticket waits; any other
+// commits.
+pub fn commit(m: Machine, core: u32, committed: &mut [u32], pending: &mut [u32]) -> Outcome
+    requires { ⌜ sound m ≡ true ⌝ }
+    requires { ⌜ length (now committed) ≡ m .objects ⌝ }
+    requires { ⌜ length (now pending) ≡ m .cores * m .objects ⌝ }
+    ensures rule {
+        λ r. ⌜ record {
+          answer = r .answer;
+          world = record { machine = r .machine; committed = now (committed .exit); pending = now (pending .exit) };
+        } ≡ commitRule (named (r .answer)) (record { machine = m; committed = now (committed .entry); pending = now (pending .entry) }) core ⌝
+    }
+    ensures waits { λ r. ⌜ ((e : ℕ) → r .answer ≡ Answer.Waits e → contender m core e ≡ true) ⌝ }
+{
+    if m.cores as u32 <= core {
+        return Outcome {
+            answer: Answer::Refused(4),
+            machine: m,
+        };
+    }
+    let c = core as usize;
+    let k = m.core[c];
+    if k.active {
+        if k.zombie {
+            let mut n = m;
+            n.core[c] = without_mark(k);
+            return Outcome {
+                answer: Answer::SetBack,
+                machine: n,
+            };
+        }
+        match contender_of(m, c) {
+            Ahead::At(e) => Outcome {
+                answer: Answer::Waits(e),
+                machine: m,
+            },
+            Ahead::Nobody => carry_through(m, c, committed, pending),
+        }
+    } else {
+        Outcome {
+            answer: Answer::Refused(9),
+            machine: m,
+        }
+    }
+}
