@@ -3,6 +3,7 @@ mod Entries
 mod JobLaws
 mod CallLaws
 mod Facts
+mod SoundLaws
 pub mod Case
 pub mod CanFollow
 pub mod Sound

@@ -1,6 +1,7 @@
 // The machine's record (document 01: the record that each call but setup takes and all hand back), the answers of the
 // eight calls, and what a call hands back. Assumes nothing.
 pub mod inside;
+mod soundness;
 
 // A job in a core's list.
 pub struct Job {
