@@ -20,7 +20,7 @@ unused-zero-requires : tie.Need-unused-zero-requires
 unused-zero-requires c κs = search needs
 
 owner-first-requires : tie.Need-owner-first-requires
-owner-first-requires c κs = omega (arith, owner-in-list _ (answered (c .before .before .before .before .before .before .transaction-tidy .ensures) (c .before .before .before .before .before .if2 .taken)) (c .if5 .taken))
+owner-first-requires c κs = omega (arith, owner-in-list (c .before .before .before .before .before .before .before .before .before .args .k) (answered (c .before .before .before .before .before .before .transaction-tidy .ensures) (c .before .before .before .before .before .if2 .taken)) (c .if5 .taken))
 
 returns-2 : tie.Need-returns-2
 returns-2 c = rw (answered (c .before .before .before .before .before .before .before .before .before .sets-within .ensures) (c .before .before .before .before .before .before .before .before .if1 .taken), answered (c .before .before .before .before .before .before .before .transaction-tidy .ensures) (c .before .before .before .before .before .before .if2 .taken), le-leb _ _ (c .before .before .before .before .if3 .left), answered (c .before .before .before .unused-zero .ensures) (c .before .before .if4 .taken), c .before .if5 .taken) (c .owner-first .ensures)

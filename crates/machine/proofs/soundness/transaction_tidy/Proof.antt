@@ -22,7 +22,7 @@ is-clear-requires : tie.Need-is-clear-requires
 is-clear-requires c κs = search needs
 
 returns-4 : tie.Need-returns-4
-returns-4 c = c .is-clear .ensures ∙ without-transaction _ (c .before .if1 .left)
+returns-4 c = c .is-clear .ensures ∙ without-transaction (c .before .before .args .k) (c .before .if1 .left)
 
 pub transaction-tidy-spec : {M : Type 1} → statement M
 transaction-tidy-spec = tie.close (tie.spec sets-empty-requires returns returns-2 returns-3 is-clear-requires returns-4)

@@ -47,7 +47,7 @@ loop-again c = (
   ⊎-elim (λ w. omega arith) (λ w. omega arith) (c .if1 .came),
   ⊎-elim (λ w. w .3 ∙ tally-counts _ _ _ (c .before .before .before .loop .inv .2) (w .0 .taken)) (λ w. w .1 ∙ tally-skips _ _ _ (c .before .before .before .loop .inv .2) (w .0 .left)) (c .if1 .came),
   each-more _ _ (c .before .before .before .loop .inv .3)
-      (⊎-elim (λ w. turn-on _ _ (w .0 .taken) ∙ answered (w .1 .ensures) (w .2 .taken)) (λ w. turn-off _ _ (w .0 .left)) (c .if1 .came)),
+      (⊎-elim (λ w. turn-on (c .before .before .before .before .args .t1) _ (w .0 .taken) ∙ answered (w .1 .ensures) (w .2 .taken)) (λ w. turn-off (c .before .before .before .before .args .t1) _ (w .0 .left)) (c .if1 .came)),
 )
 
 cast-result : tie.Need-cast-result Inv-loop μ-loop
