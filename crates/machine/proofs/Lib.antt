@@ -3,6 +3,7 @@ mod Entries
 mod JobLaws
 mod CallLaws
 mod Facts
+mod TestLaws
 mod SoundLaws
 pub mod Case
 pub mod CanFollow

@@ -1,95 +1,24 @@
--- The laws behind the soundness test: tests passed one by one, counts made one by one, and the rules gathered core by core.
--- Assumes nothing.
+-- The laws behind the soundness test: the rules that one core keeps, and the rules gathered core by core. Assumes nothing.
 use mathlib.Core.Path.{_≡_, refl, sym, ap, ap₂, _∙_}
-use mathlib.Core.Bool.{Bool, true, false, cond, not, _&&_, _||_, true≢false}
+use mathlib.Core.Bool.{Bool, true, false, not, _&&_}
 use mathlib.Core.List.{List}
-use Prim.Native.Nat.{ℕ, zero, suc, _+_, _≤_, _<_}
+use Prim.Native.Nat.{ℕ, _+_, _≤_, _<_}
 use native.Mathlib.Omega.{arith}
-use native.Mathlib.Numerals.{add-one}
 use lib.Dec.{eqb, leb, ltb}
 use lib.ListN.{getD}
-use borrow.Author.Tests.{ltb-true, leb-true, lt-ltb, le-ltb, le-leb, ne-eqb}
+use borrow.Author.Tests.{ltb-true, leb-true, lt-ltb, le-ltb, le-leb}
 use Rattle.objset.specs.Objset.{each, below}
-use Rattle.objset.proofs.Laws.{both-left, both-right, each-one, one-each}
+use Rattle.objset.proofs.Laws.{both-left, one-each}
 use Rattle.machine.specs.declared.Machine.{Machine}
 use Rattle.machine.specs.declared.Core.{Core}
 use Rattle.machine.specs.declared.Job.{Job}
-use Rattle.machine.specs.Record.{noJob, coreAt, jobAt, tally}
-use Rattle.machine.specs.Sound.{_⇒_, inRange, setsWithin, ownerListed, emptySets, idleClear, zombieEmpty, atMostEight, zeroJob, unusedJobs, lackedCores, lackedObjects, ownerFirst, ticketsDiffer, ticketsGiven, ticketsCounted, versionsBounded, ahead, abortsBounded, sound}
+use Rattle.machine.specs.Record.{noJob, coreAt, tally}
+use Rattle.machine.specs.Sound.{_⇒_, emptySets, zeroJob, ahead, sound}
+use Rattle.machine.specs.Sound.{inRange, setsWithin, ownerListed, idleClear, zombieEmpty, atMostEight, unusedJobs, ownerFirst, lackedCores}
+use Rattle.machine.specs.Sound.{versionsBounded, lackedObjects, ticketsDiffer, ticketsGiven, abortsBounded, ticketsCounted}
 use Rattle.machine.proofs.Tally.{tally-bounded}
+use Rattle.machine.proofs.TestLaws.{and-true, same-test, each-fails, each-all, gather}
 use Rattle.machine.proofs.Sound.Passed.{if-true, true-if, both, Passed, passed, passed-all}
-
--- ---- tests
-
--- a test that cannot pass fails
-pub fails : (b : Bool) → (b ≡ true → ⊥) → false ≡ b
-fails true h = absurd (h refl)
-fails false h = refl
-
--- two tests that pass together are one
-pub same-test : (a b : Bool) → (a ≡ true → b ≡ true) → (b ≡ true → a ≡ true) → a ≡ b
-same-test true b h g = sym (h refl)
-same-test false b h g = fails b (λ e. true≢false (sym (g e)))
-
--- what a call answered
-pub answered : {r b v : Bool} → r ≡ b → r ≡ v → b ≡ v
-answered e t = sym e ∙ t
-
-pub and-true : (a : Bool) → (a && true) ≡ a
-and-true true = refl
-and-true false = refl
-
-pub some-number : (n : ℕ) → (n ≡ 0 → ⊥) → ltb 0 n ≡ true
-some-number n h = lt-ltb 0 n (omega (arith, h))
-
--- ---- one by one
-
--- one that fails
-pub each-fails : (n : ℕ) (f : ℕ → Bool) (i : ℕ) → i < n → f i ≡ false → false ≡ each n f
-each-fails n f i l e = fails (each n f) (λ a. true≢false (sym (each-one n f a i l) ∙ e))
-
-pub each-none : (f : ℕ → Bool) → each 0 f ≡ true
-unfolding each
-each-none f = refl
-
--- one more that passes
-pub each-more : (n : ℕ) (f : ℕ → Bool) → each n f ≡ true → f n ≡ true → each (n + 1) f ≡ true
-unfolding each
-each-more n f all here = ap (λ (x : ℕ). each x f) (add-one n) ∙ ap₂ _&&_ here all
-
--- the end is reached
-pub each-all : (n i : ℕ) (f : ℕ → Bool) → n ≤ i → i ≤ n → each i f ≡ true → true ≡ each n f
-each-all n i f p q e = let s : i ≡ n = omega arith in sym (ap (λ (x : ℕ). each x f) (sym s) ∙ e)
-
--- two tests of each are two tests over all
-and-swap : (a b p q : Bool) → (a && b && (p && q)) ≡ (a && p && (b && q))
-and-swap true true p q = refl
-and-swap true false true q = refl
-and-swap true false false q = refl
-and-swap false b p q = refl
-
-pub each-both : (n : ℕ) (f g : ℕ → Bool) → each n (λ i. f i && g i) ≡ (each n f && each n g)
-unfolding each
-each-both zero f g = refl
-each-both (suc n) f g = ap (λ (b : Bool). f n && g n && b) (each-both n f g) ∙ and-swap (f n) (g n) (each n f) (each n g)
-
-pub gather : (n : ℕ) (f g : ℕ → Bool) (a : Bool) → each n f ≡ a → each n (λ i. f i && g i) ≡ (a && each n g)
-gather n f g a e = each-both n f g ∙ ap (λ (b : Bool). b && each n g) e
-
--- one more is counted, or not
-pub tally-none : (f : ℕ → Bool) → _≡_ {A = ℕ} 0 (tally 0 f)
-unfolding tally
-tally-none f = refl
-
-pub tally-counts : (n i : ℕ) (f : ℕ → Bool) → n ≡ tally i f → f i ≡ true → n + 1 ≡ tally (i + 1) f
-unfolding tally
-tally-counts n i f e t =
-    sym (ap (λ (x : ℕ). tally x f) (add-one i) ∙ rw t (omega (arith, e)))
-
-pub tally-skips : (n i : ℕ) (f : ℕ → Bool) → n ≡ tally i f → f i ≡ false → n ≡ tally (i + 1) f
-unfolding tally
-tally-skips n i f e t =
-    sym (ap (λ (x : ℕ). tally x f) (add-one i) ∙ rw t (omega (arith, e)))
 
 -- ---- one core
 
@@ -196,7 +125,7 @@ versions-all m d p q e = each-all 64 d (versionAt m) p q e ∙ versions-bounded 
 abbrev pub differsFrom : Machine → ℕ → ℕ → Bool
 differsFrom m t e = coreAt m e .active ⇒ not (eqb t (coreAt m e .ticket))
 
--- what turn_bounded tests
+-- what turn_kept tests
 abbrev pub turnOf : Machine → ℕ → ℕ → ℕ → Bool
 turnOf m c t b = each c (differsFrom m t) && ltb t (m .tickets) && ltb (b + ahead m t) (m .cores)
 
@@ -212,30 +141,30 @@ turn-on m c on = simp on
 pub turn-off : (m : Machine) (c : ℕ) → coreAt m c .active ≡ false → turnAt m c ≡ true
 turn-off m c off = simp off (ap (λ (b : Bool). b && true && true) (one-each c (λ e. true) (λ e l. refl)))
 
-abbrev pub boundedTurns : Machine → Bool
-boundedTurns m = ticketsDiffer m && ticketsGiven m && abortsBounded m
+abbrev pub keptTurns : Machine → Bool
+keptTurns m = ticketsDiffer m && ticketsGiven m && abortsBounded m
 
-pub turns-bounded : (m : Machine) → each 16 (turnAt m) ≡ boundedTurns m
+pub turns-kept : (m : Machine) → each 16 (turnAt m) ≡ keptTurns m
 unfolding ticketsDiffer ticketsGiven abortsBounded
-turns-bounded m = gather 16 _ _ _ (gather 16 _ _ _ refl)
+turns-kept m = gather 16 _ _ _ (gather 16 _ _ _ refl)
 
 -- a transaction that breaks them
 pub turn-fails : (m : Machine) (c : ℕ) → c < 16 → coreAt m c .active ≡ true → turnOf m c (coreAt m c .ticket) (coreAt m c .aborts) ≡ false
-    → false ≡ (boundedTurns m && ticketsCounted m)
+    → false ≡ (keptTurns m && ticketsCounted m)
 turn-fails m c l on e =
-    ap (λ (b : Bool). b && ticketsCounted m) (each-fails 16 (turnAt m) c l (turn-on m c on ∙ e) ∙ turns-bounded m)
+    ap (λ (b : Bool). b && ticketsCounted m) (each-fails 16 (turnAt m) c l (turn-on m c on ∙ e) ∙ turns-kept m)
 
 abbrev pub activeAt : Machine → ℕ → Bool
 activeAt m c = coreAt m c .active
 
--- all keep them: what is left is the count
+-- where all keep them, what is left is the count
 pub turns-all : (m : Machine) (n c : ℕ) → 16 ≤ c → c ≤ 16 → n ≡ tally c (activeAt m) → each c (turnAt m) ≡ true
-    → eqb (m .tickets) (m .commits + m .«give_ups» + n) ≡ (boundedTurns m && ticketsCounted m)
+    → eqb (m .tickets) (m .commits + m .«give_ups» + n) ≡ (keptTurns m && ticketsCounted m)
 unfolding ticketsCounted
 turns-all m n c p q e a =
     let s : c ≡ 16 = omega arith in
     ap₂ (λ (b : Bool) (x : ℕ). b && eqb (m .tickets) (m .commits + m .«give_ups» + x))
-    (each-all 16 c (turnAt m) p q a ∙ turns-bounded m) (e ∙ ap (λ (x : ℕ). tally x (activeAt m)) s)
+    (each-all 16 c (turnAt m) p q a ∙ turns-kept m) (e ∙ ap (λ (x : ℕ). tally x (activeAt m)) s)
 
 -- core c has a transaction in progress with a ticket smaller than t
 abbrev pub aheadAt : Machine → ℕ → ℕ → Bool
@@ -251,15 +180,15 @@ ahead-few m t = tally-bounded 16 (aheadAt m t)
 
 -- ---- the record
 
-pub sound-parts : (m : Machine) → (inRange m && tidyCores m && boundedVersions m && (boundedTurns m && ticketsCounted m)) ≡ sound m
+pub sound-parts : (m : Machine) → (inRange m && tidyCores m && boundedVersions m && (keptTurns m && ticketsCounted m)) ≡ sound m
 sound-parts m = same-test _ (sound m) to from
   where
-    to : (inRange m && tidyCores m && boundedVersions m && (boundedTurns m && ticketsCounted m)) ≡ true → sound m ≡ true
+    to : (inRange m && tidyCores m && boundedVersions m && (keptTurns m && ticketsCounted m)) ≡ true → sound m ≡ true
     to e =
-        let t = both _ (boundedTurns m && ticketsCounted m) e in
+        let t = both _ (keptTurns m && ticketsCounted m) e in
         let v = both _ (boundedVersions m) (t .0) in
         let c = both (inRange m) (tidyCores m) (v .0) in
-        let t1 = both (boundedTurns m) (ticketsCounted m) (t .1) in
+        let t1 = both (keptTurns m) (ticketsCounted m) (t .1) in
         let t2 = both _ (abortsBounded m) (t1 .0) in
         let t3 = both (ticketsDiffer m) (ticketsGiven m) (t2 .0) in
         let v1 = both (versionsBounded m) (lackedObjects m) (v .1) in
@@ -289,7 +218,7 @@ sound-parts m = same-test _ (sound m) to from
           passed-aborts-bounded = t2 .1;
         })
 
-    from : sound m ≡ true → (inRange m && tidyCores m && boundedVersions m && (boundedTurns m && ticketsCounted m)) ≡ true
+    from : sound m ≡ true → (inRange m && tidyCores m && boundedVersions m && (keptTurns m && ticketsCounted m)) ≡ true
     from s =
         let p = passed m s in
         rw (
@@ -311,7 +240,7 @@ sound-parts m = same-test _ (sound m) to from
         )
 
 module _ (m : Machine) where
-  four : {a b c d : Bool} → inRange m ≡ a → tidyCores m ≡ b → boundedVersions m ≡ c → (boundedTurns m && ticketsCounted m) ≡ d
+  four : {a b c d : Bool} → inRange m ≡ a → tidyCores m ≡ b → boundedVersions m ≡ c → (keptTurns m && ticketsCounted m) ≡ d
       → (a && b && c && d) ≡ sound m
   four a b c d = sym (ap₂ _&&_ (ap₂ _&&_ (ap₂ _&&_ a b) c) d) ∙ sound-parts m
 
@@ -324,5 +253,6 @@ module _ (m : Machine) where
   pub unbounded : inRange m ≡ true → tidyCores m ≡ true → boundedVersions m ≡ false → false ≡ sound m
   unbounded a b c = four a b c refl
 
-  pub by-turns : {r : Bool} → inRange m ≡ true → tidyCores m ≡ true → boundedVersions m ≡ true → r ≡ (boundedTurns m && ticketsCounted m) → r ≡ sound m
+  pub by-turns : {r : Bool} → inRange m ≡ true → tidyCores m ≡ true → boundedVersions m ≡ true
+      → r ≡ (keptTurns m && ticketsCounted m) → r ≡ sound m
   by-turns a b c d = d ∙ four a b c refl

@@ -6,15 +6,16 @@ use mathlib.Core.Logic.{⊎-elim}
 use borrow.Author.Needs.{needs}
 use borrow.Author.Tests.{lt-ltb, le-ltb}
 use Rattle.machine.specs.Record.{tally}
-use Rattle.machine.proofs.SoundLaws.{tally-none, tally-counts, tally-skips, aheadAt, ahead-all}
+use Rattle.machine.proofs.TestLaws.{tally-none, tally-counts, tally-skips}
+use Rattle.machine.proofs.SoundLaws.{aheadAt, ahead-all}
 use Rattle.machine.proofs.soundness.ahead_of.Statement.{statement}
 use Rattle.machine.proofs.soundness.ahead_of.Tie as tie
 
 abbrev Inv-loop : tie.InvT-loop
-Inv-loop ticket m n₀ c₀ n c = (c ≤ 16) × (n ≤ c) × (n ≡ tally c (aheadAt m ticket))
+Inv-loop ticket m n₀ e₀ n e = (e ≤ 16) × (n ≤ e) × (n ≡ tally e (aheadAt m ticket))
 
 abbrev μ-loop : tie.MeasureT-loop
-μ-loop ticket m n₀ c₀ n c = 16 - c
+μ-loop ticket m n₀ e₀ n e = 16 - e
 
 loop-holds : tie.Need-loop-holds Inv-loop μ-loop
 loop-holds c = (omega arith, omega arith, tally-none _)
@@ -28,8 +29,8 @@ element-copy-out-k c = search needs
 add-n : tie.Need-add-n Inv-loop μ-loop
 add-n c = search needs
 
-add-c : tie.Need-add-c Inv-loop μ-loop
-add-c c = search needs
+add-e : tie.Need-add-e Inv-loop μ-loop
+add-e c = search needs
 
 loop-less : tie.Need-loop-less Inv-loop μ-loop
 loop-less c = search needs
@@ -47,4 +48,16 @@ returns : tie.Need-returns Inv-loop μ-loop
 returns c = ahead-all _ _ _ _ (c .loop-test .left) (c .before .loop .inv .0) (c .before .loop .inv .2)
 
 pub ahead-of-spec : {M : Type 1} → statement M
-ahead-of-spec = tie.close (tie.spec Inv-loop μ-loop loop-holds mul-k element-copy-out-k add-n add-c loop-less loop-again returns)
+ahead-of-spec =
+    tie.close
+    (tie.spec
+    Inv-loop
+    μ-loop
+    loop-holds
+    mul-k
+    element-copy-out-k
+    add-n
+    add-e
+    loop-less
+    loop-again
+    returns)

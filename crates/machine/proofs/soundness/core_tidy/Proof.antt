@@ -1,41 +1,86 @@
 -- `machine::soundness::core_tidy` meets its contract. Assumes nothing.
-use mathlib.Core.Path.{_∙_}
 use native.Mathlib.Omega.{arith}
 use borrow.Author.Needs.{needs}
 use borrow.Author.Tests.{le-leb, lt-leb}
-use Rattle.machine.proofs.SoundLaws.{answered, owner-in-list}
+use Rattle.machine.proofs.TestLaws.{holds, breaks}
+use Rattle.machine.proofs.SoundLaws.{owner-in-list}
 use Rattle.machine.proofs.soundness.core_tidy.Statement.{statement}
 use Rattle.machine.proofs.soundness.core_tidy.Tie as tie
 
 sets-within-requires : tie.Need-sets-within-requires
 sets-within-requires c κs = search needs
 
+returns : tie.Need-returns
+returns c = rw (breaks (c .before .sets-within .ensures) (c .if1 .taken))
+
 transaction-tidy-requires : tie.Need-transaction-tidy-requires
 transaction-tidy-requires c κs = search needs
 
-returns : tie.Need-returns
-returns c = rw (answered (c .before .before .before .before .before .sets-within .ensures) (c .before .before .before .before .if1 .taken), answered (c .before .before .before .transaction-tidy .ensures) (c .before .before .if2 .taken), lt-leb _ _ (c .if3 .taken))
+returns-2 : tie.Need-returns-2
+returns-2 c =
+    rw (
+      holds (c .before .before .before .sets-within .ensures) (c .before .before .if1 .left),
+      breaks (c .before .transaction-tidy .ensures) (c .if2 .taken),
+    )
+
+returns-3 : tie.Need-returns-3
+returns-3 c =
+    rw (
+      holds (c .before .before .before .before .before .sets-within .ensures) (c .before .before .before .before .if1 .left),
+      holds (c .before .before .before .transaction-tidy .ensures) (c .before .before .if2 .left),
+      lt-leb _ _ (c .if3 .taken),
+    )
 
 unused-zero-requires : tie.Need-unused-zero-requires
 unused-zero-requires c κs = search needs
 
-owner-first-requires : tie.Need-owner-first-requires
-owner-first-requires c κs = omega (arith, owner-in-list (c .before .before .before .before .before .before .before .before .before .args .k) (answered (c .before .before .before .before .before .before .transaction-tidy .ensures) (c .before .before .before .before .before .if2 .taken)) (c .if5 .taken))
-
-returns-2 : tie.Need-returns-2
-returns-2 c = rw (answered (c .before .before .before .before .before .before .before .before .before .sets-within .ensures) (c .before .before .before .before .before .before .before .before .if1 .taken), answered (c .before .before .before .before .before .before .before .transaction-tidy .ensures) (c .before .before .before .before .before .before .if2 .taken), le-leb _ _ (c .before .before .before .before .if3 .left), answered (c .before .before .before .unused-zero .ensures) (c .before .before .if4 .taken), c .before .if5 .taken) (c .owner-first .ensures)
-
-returns-3 : tie.Need-returns-3
-returns-3 c = rw (answered (c .before .before .before .before .before .before .before .before .sets-within .ensures) (c .before .before .before .before .before .before .before .if1 .taken), answered (c .before .before .before .before .before .before .transaction-tidy .ensures) (c .before .before .before .before .before .if2 .taken), le-leb _ _ (c .before .before .before .if3 .left), answered (c .before .before .unused-zero .ensures) (c .before .if4 .taken), c .if5 .left)
-
 returns-4 : tie.Need-returns-4
-returns-4 c = rw (answered (c .before .before .before .before .before .before .before .sets-within .ensures) (c .before .before .before .before .before .before .if1 .taken), answered (c .before .before .before .before .before .transaction-tidy .ensures) (c .before .before .before .before .if2 .taken), le-leb _ _ (c .before .before .if3 .left), answered (c .before .unused-zero .ensures) (c .if4 .left))
+returns-4 c =
+    rw (
+      holds (c .before .before .before .before .before .before .before .sets-within .ensures) (c .before .before .before .before .before .before .if1 .left),
+      holds (c .before .before .before .before .before .transaction-tidy .ensures) (c .before .before .before .before .if2 .left),
+      le-leb _ _ (c .before .before .if3 .left),
+      breaks (c .before .unused-zero .ensures) (c .if4 .taken),
+    )
+
+owner-first-requires : tie.Need-owner-first-requires
+owner-first-requires c κs =
+    omega (
+      arith,
+      owner-in-list (c .before .before .before .before .before .before .before .before .before .args .k) (holds (c .before .before .before .before .before .before .transaction-tidy .ensures) (c .before .before .before .before .before .if2 .left)) (c .if5 .taken),
+    )
 
 returns-5 : tie.Need-returns-5
-returns-5 c = rw (answered (c .before .before .before .sets-within .ensures) (c .before .before .if1 .taken), answered (c .before .transaction-tidy .ensures) (c .if2 .left))
+returns-5 c =
+    rw (
+      holds (c .before .before .before .before .before .before .before .before .before .sets-within .ensures) (c .before .before .before .before .before .before .before .before .if1 .left),
+      holds (c .before .before .before .before .before .before .before .transaction-tidy .ensures) (c .before .before .before .before .before .before .if2 .left),
+      le-leb _ _ (c .before .before .before .before .if3 .left),
+      holds (c .before .before .before .unused-zero .ensures) (c .before .before .if4 .left),
+      c .before .if5 .taken,
+    ) (c .owner-first .ensures)
 
 returns-6 : tie.Need-returns-6
-returns-6 c = rw (answered (c .before .sets-within .ensures) (c .if1 .left))
+returns-6 c =
+    rw (
+      holds (c .before .before .before .before .before .before .before .before .sets-within .ensures) (c .before .before .before .before .before .before .before .if1 .left),
+      holds (c .before .before .before .before .before .before .transaction-tidy .ensures) (c .before .before .before .before .before .if2 .left),
+      le-leb _ _ (c .before .before .before .if3 .left),
+      holds (c .before .before .unused-zero .ensures) (c .before .if4 .left),
+      c .if5 .left,
+    )
 
 pub core-tidy-spec : {M : Type 1} → statement M
-core-tidy-spec = tie.close (tie.spec sets-within-requires transaction-tidy-requires returns unused-zero-requires owner-first-requires returns-2 returns-3 returns-4 returns-5 returns-6)
+core-tidy-spec =
+    tie.close
+    (tie.spec
+    sets-within-requires
+    returns
+    transaction-tidy-requires
+    returns-2
+    returns-3
+    unused-zero-requires
+    returns-4
+    owner-first-requires
+    returns-5
+    returns-6)

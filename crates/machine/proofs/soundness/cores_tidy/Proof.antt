@@ -5,7 +5,8 @@ use Prim.Native.Nat.{_-_, _≤_}
 use native.Mathlib.Omega.{arith}
 use borrow.Author.Needs.{needs}
 use Rattle.objset.specs.Objset.{each}
-use Rattle.machine.proofs.SoundLaws.{answered, each-none, each-more, tidyAt, tidy-fails, tidy-all}
+use Rattle.machine.proofs.TestLaws.{holds, breaks, each-none, each-more}
+use Rattle.machine.proofs.SoundLaws.{tidyAt, tidy-fails, tidy-all}
 use Rattle.machine.proofs.soundness.cores_tidy.Statement.{statement}
 use Rattle.machine.proofs.soundness.cores_tidy.Tie as tie
 
@@ -27,8 +28,18 @@ element-copy-out-k c = search needs
 core-tidy-requires : tie.Need-core-tidy-requires Inv-loop μ-loop
 core-tidy-requires c κs = search needs
 
+returns : tie.Need-returns Inv-loop μ-loop
+returns c =
+    tidy-fails (c .before .before .before .before .before .args .t1) (c .before .before .before .before .loop .c) (c .before .before .before .loop-test .taken)
+    (rw (breaks (c .before .core-tidy .ensures) (c .if1 .taken)))
+
 lacked-blank-requires : tie.Need-lacked-blank-requires Inv-loop μ-loop
 lacked-blank-requires c κs = search needs
+
+returns-2 : tie.Need-returns-2 Inv-loop μ-loop
+returns-2 c =
+    tidy-fails _ _ (c .before .before .before .before .before .loop-test .taken)
+    (ap₂ _&&_ (holds (c .before .before .before .core-tidy .ensures) (c .before .before .if1 .left)) (breaks (c .before .lacked-blank .ensures) (c .if2 .taken)))
 
 add-c : tie.Need-add-c Inv-loop μ-loop
 add-c c = search needs
@@ -37,16 +48,29 @@ loop-less : tie.Need-loop-less Inv-loop μ-loop
 loop-less c = search needs
 
 loop-again : tie.Need-loop-again Inv-loop μ-loop
-loop-again c = (omega arith, each-more _ _ (c .before .before .before .before .before .before .loop .inv .1) (ap₂ _&&_ (answered (c .before .before .before .core-tidy .ensures) (c .before .before .if1 .taken)) (answered (c .before .lacked-blank .ensures) (c .if2 .taken))))
-
-returns : tie.Need-returns Inv-loop μ-loop
-returns c = tidy-fails _ _ (c .before .before .before .before .before .loop-test .taken) (ap₂ _&&_ (answered (c .before .before .before .core-tidy .ensures) (c .before .before .if1 .taken)) (answered (c .before .lacked-blank .ensures) (c .if2 .left)))
-
-returns-2 : tie.Need-returns-2 Inv-loop μ-loop
-returns-2 c = tidy-fails (c .before .before .before .before .before .args .t1) (c .before .before .before .before .loop .c) (c .before .before .before .loop-test .taken) (rw (answered (c .before .core-tidy .ensures) (c .if1 .left)))
+loop-again c = (
+  omega arith,
+  each-more _ _ (c .before .before .before .before .before .before .loop .inv .1)
+      (ap₂ _&&_ (holds (c .before .before .before .core-tidy .ensures) (c .before .before .if1 .left)) (holds (c .before .lacked-blank .ensures) (c .if2 .left))),
+)
 
 returns-3 : tie.Need-returns-3 Inv-loop μ-loop
 returns-3 c = tidy-all _ _ (c .loop-test .left) (c .before .loop .inv .0) (c .before .loop .inv .1)
 
 pub cores-tidy-spec : {M : Type 1} → statement M
-cores-tidy-spec = tie.close (tie.spec Inv-loop μ-loop loop-holds mul-k element-copy-out-k core-tidy-requires lacked-blank-requires add-c loop-less loop-again returns returns-2 returns-3)
+cores-tidy-spec =
+    tie.close
+    (tie.spec
+    Inv-loop
+    μ-loop
+    loop-holds
+    mul-k
+    element-copy-out-k
+    core-tidy-requires
+    returns
+    lacked-blank-requires
+    returns-2
+    add-c
+    loop-less
+    loop-again
+    returns-3)

@@ -34,7 +34,8 @@ element-copy-out-if1 : tie.Need-element-copy-out-if1 Inv-loop μ-loop
 element-copy-out-if1 c = search needs
 
 returns : tie.Need-returns Inv-loop μ-loop
-returns c = owner-not-first (c .before .before .before .before .before .args .k .jobs) _ _ (c .before .before .before .before .before .pre) (c .before .loop-test .taken) (c .if1 .taken)
+returns c =
+    owner-not-first (c .before .before .before .before .before .args .k .jobs) _ _ (c .before .before .before .before .before .pre) (c .before .loop-test .taken) (c .if1 .taken)
 
 add-p : tie.Need-add-p Inv-loop μ-loop
 add-p c = search needs
@@ -49,4 +50,19 @@ returns-2 : tie.Need-returns-2 Inv-loop μ-loop
 returns-2 c = owner-first (c .before .before .before .before .args .k .jobs) _ _ (c .loop-test .left) (c .before .loop .inv .1)
 
 pub owner-first-spec : {M : Type 1} → statement M
-owner-first-spec = tie.close (tie.spec Inv-loop μ-loop cast-owner mul-deadline element-copy-out-deadline loop-holds mul-if1 element-copy-out-if1 returns add-p loop-less loop-again returns-2)
+owner-first-spec =
+    tie.close
+    (tie.spec
+    Inv-loop
+    μ-loop
+    cast-owner
+    mul-deadline
+    element-copy-out-deadline
+    loop-holds
+    mul-if1
+    element-copy-out-if1
+    returns
+    add-p
+    loop-less
+    loop-again
+    returns-2)

@@ -8,7 +8,8 @@ use mathlib.Core.Path.{ap}
 use borrow.Author.Needs.{needs}
 use borrow.Author.Tests.{eq-eqb, ne-eqb}
 use Rattle.objset.specs.Objset.{each}
-use Rattle.machine.proofs.SoundLaws.{each-none, each-more, each-fails, each-all, differsFrom}
+use Rattle.machine.proofs.TestLaws.{each-none, each-more, each-fails, each-all}
+use Rattle.machine.proofs.SoundLaws.{differsFrom}
 use Rattle.machine.proofs.soundness.ticket_differs.Statement.{statement}
 use Rattle.machine.proofs.soundness.ticket_differs.Tie as tie
 
@@ -28,7 +29,8 @@ element-copy-out-k : tie.Need-element-copy-out-k Inv-loop μ-loop
 element-copy-out-k c = search needs
 
 returns : tie.Need-returns Inv-loop μ-loop
-returns c = each-fails _ _ _ (c .before .before .before .before .loop-test .taken) (rw (c .before .before .if1 .taken, eq-eqb _ _ (c .if2 .taken)))
+returns c =
+    each-fails _ _ _ (c .before .before .before .before .loop-test .taken) (rw (c .before .before .if1 .taken, eq-eqb _ _ (c .if2 .taken)))
 
 add-e : tie.Need-add-e Inv-loop μ-loop
 add-e c = search needs
@@ -47,4 +49,16 @@ returns-2 : tie.Need-returns-2 Inv-loop μ-loop
 returns-2 c = each-all _ _ _ (c .loop-test .left) (c .before .loop .inv .0) (c .before .loop .inv .1)
 
 pub ticket-differs-spec : {M : Type 1} → statement M
-ticket-differs-spec = tie.close (tie.spec Inv-loop μ-loop loop-holds mul-k element-copy-out-k returns add-e loop-less loop-again returns-2)
+ticket-differs-spec =
+    tie.close
+    (tie.spec
+    Inv-loop
+    μ-loop
+    loop-holds
+    mul-k
+    element-copy-out-k
+    returns
+    add-e
+    loop-less
+    loop-again
+    returns-2)

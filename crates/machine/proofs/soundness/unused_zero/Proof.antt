@@ -32,10 +32,14 @@ array-copy-out-j : tie.Need-array-copy-out-j Inv-loop μ-loop
 array-copy-out-j c = search needs
 
 returns : tie.Need-returns Inv-loop μ-loop
-returns c = unused-not-zero (c .before .before .before .before .before .before .before .args .k .jobs) _ _ (c .before .before .before .before .loop .inv .0) (c .before .before .before .loop-test .taken) (rw (ne-eqb _ _ (c .if1 .taken)))
+returns c =
+    unused-not-zero (c .before .before .before .before .before .before .before .args .k .jobs) _ _ (c .before .before .before .before .loop .inv .0) (c .before .before .before .loop-test .taken)
+    (rw (ne-eqb _ _ (c .if1 .taken)))
 
 returns-2 : tie.Need-returns-2 Inv-loop μ-loop
-returns-2 c = unused-not-zero (c .before .before .before .before .before .before .before .before .before .args .k .jobs) _ _ (c .before .before .before .before .before .before .loop .inv .0) (c .before .before .before .before .before .loop-test .taken) (rw (eq-eqb _ _ (c .before .before .if1 .left), ne-eqb _ _ (c .if2 .taken)))
+returns-2 c =
+    unused-not-zero (c .before .before .before .before .before .before .before .before .before .args .k .jobs) _ _ (c .before .before .before .before .before .before .loop .inv .0) (c .before .before .before .before .before .loop-test .taken)
+    (rw (eq-eqb _ _ (c .before .before .if1 .left), ne-eqb _ _ (c .if2 .taken)))
 
 add-p : tie.Need-add-p Inv-loop μ-loop
 add-p c = search needs
@@ -44,10 +48,27 @@ loop-less : tie.Need-loop-less Inv-loop μ-loop
 loop-less c = search needs
 
 loop-again : tie.Need-loop-again Inv-loop μ-loop
-loop-again c = (omega arith, below-more _ _ (c .before .before .before .before .before .before .loop .inv .1) (λ h. rw (eq-eqb _ _ (c .before .before .if1 .left), eq-eqb _ _ (c .if2 .left))))
+loop-again c = (
+  omega arith,
+  below-more _ _ (c .before .before .before .before .before .before .loop .inv .1) (λ h. rw (eq-eqb _ _ (c .before .before .if1 .left), eq-eqb _ _ (c .if2 .left))),
+)
 
 returns-3 : tie.Need-returns-3 Inv-loop μ-loop
 returns-3 c = unused-zero (c .before .before .before .before .args .k .jobs) _ _ (c .loop-test .left) (c .before .loop .inv .1)
 
 pub unused-zero-spec : {M : Type 1} → statement M
-unused-zero-spec = tie.close (tie.spec Inv-loop μ-loop cast-p loop-holds mul-j array-copy-out-j returns returns-2 add-p loop-less loop-again returns-3)
+unused-zero-spec =
+    tie.close
+    (tie.spec
+    Inv-loop
+    μ-loop
+    cast-p
+    loop-holds
+    mul-j
+    array-copy-out-j
+    returns
+    returns-2
+    add-p
+    loop-less
+    loop-again
+    returns-3)

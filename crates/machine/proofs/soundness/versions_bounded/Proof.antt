@@ -7,7 +7,8 @@ use mathlib.Core.Logic.{⊎-elim}
 use borrow.Author.Needs.{needs}
 use borrow.Author.Tests.{le-leb, lt-leb, eq-eqb, ne-eqb}
 use Rattle.objset.specs.Objset.{each}
-use Rattle.machine.proofs.SoundLaws.{each-none, each-more, versionAt, version-fails, versions-all}
+use Rattle.machine.proofs.TestLaws.{each-none, each-more}
+use Rattle.machine.proofs.SoundLaws.{versionAt, version-fails, versions-all}
 use Rattle.machine.proofs.soundness.versions_bounded.Statement.{statement}
 use Rattle.machine.proofs.soundness.versions_bounded.Tie as tie
 
@@ -33,7 +34,9 @@ returns : tie.Need-returns Inv-loop μ-loop
 returns c = version-fails _ _ (c .before .before .loop-test .taken) (rw (lt-leb _ _ (c .if1 .taken)))
 
 returns-2 : tie.Need-returns-2 Inv-loop μ-loop
-returns-2 c = version-fails _ _ (c .before .before .before .before .loop-test .taken) (rw (le-leb _ _ (c .before .before .if1 .left), le-leb _ _ (c .before .if2 .taken), ne-eqb _ _ (c .if3 .taken)))
+returns-2 c =
+    version-fails _ _ (c .before .before .before .before .loop-test .taken)
+    (rw (le-leb _ _ (c .before .before .if1 .left), le-leb _ _ (c .before .if2 .taken), ne-eqb _ _ (c .if3 .taken)))
 
 add-d : tie.Need-add-d Inv-loop μ-loop
 add-d c = search needs
@@ -53,4 +56,18 @@ returns-3 : tie.Need-returns-3 Inv-loop μ-loop
 returns-3 c = versions-all _ _ (c .loop-test .left) (c .before .loop .inv .0) (c .before .loop .inv .1)
 
 pub versions-bounded-spec : {M : Type 1} → statement M
-versions-bounded-spec = tie.close (tie.spec Inv-loop μ-loop cast-objects loop-holds mul-v array-read-v returns returns-2 add-d loop-less loop-again returns-3)
+versions-bounded-spec =
+    tie.close
+    (tie.spec
+    Inv-loop
+    μ-loop
+    cast-objects
+    loop-holds
+    mul-v
+    array-read-v
+    returns
+    returns-2
+    add-d
+    loop-less
+    loop-again
+    returns-3)
