@@ -14,11 +14,12 @@ use Rattle.machine.specs.declared.Core.{Core}
 use Rattle.machine.specs.declared.Job.{Job}
 use Rattle.machine.specs.Record.{noJob, coreAt, tally}
 use Rattle.machine.specs.Sound.{_⇒_, emptySets, zeroJob, ahead, sound}
-use Rattle.machine.specs.Sound.{inRange, setsWithin, ownerListed, idleClear, zombieEmpty, atMostEight, unusedJobs, ownerFirst, lackedCores}
-use Rattle.machine.specs.Sound.{versionsBounded, lackedObjects, ticketsDiffer, ticketsGiven, abortsBounded, ticketsCounted}
+use Rattle.machine.specs.Sound.{inRange, setsWithin, ownerListed, idleClear, zombieEmpty, atMostEight}
+use Rattle.machine.specs.Sound.{unusedJobs, ownerFirst, lackedCores, versionsBounded, lackedObjects}
+use Rattle.machine.specs.Sound.{ticketsDiffer, ticketsGiven, abortsBounded, ticketsCounted}
 use Rattle.machine.proofs.Tally.{tally-bounded}
 use Rattle.machine.proofs.TestLaws.{and-true, same-test, each-fails, each-all, gather}
-use Rattle.machine.proofs.Sound.Passed.{if-true, true-if, both, Passed, passed, passed-all}
+use Rattle.machine.proofs.Sound.Passed.{if-true, true-if, both, passed, passed-all}
 
 -- ---- one core
 

@@ -170,8 +170,8 @@ fn lacked_blank(k: Core, c: usize, cores: u8) -> bool
 
 // Whether each core is tidy, and each that the machine lacks is blank.
 fn cores_tidy(m: Machine) -> bool
-    ensures { λ r. ⌜ r ≡ (setsWithin m && ownerListed m && idleClear m && zombieEmpty m && atMostEight m && unusedJobs m && ownerFirst m
-        && lackedCores m) ⌝ }
+    ensures { λ r. ⌜ r ≡ (setsWithin m && ownerListed m && idleClear m && zombieEmpty m && atMostEight m && unusedJobs m
+        && ownerFirst m && lackedCores m) ⌝ }
 {
     let mut c: usize = 0;
     while c < 16 {
@@ -227,8 +227,8 @@ fn ahead_of(m: Machine, ticket: u32) -> usize
     n
 }
 
-// Whether the aborts (document 01: setbacks) of the transaction with this ticket plus the number of smaller tickets in progress are
-// at most cores - 1.
+// Whether the aborts (document 01: setbacks) of a transaction plus the number of tickets in progress smaller than its own are at
+// most cores - 1.
 fn aborts_bounded(m: Machine, ticket: u32, aborts: u8) -> bool
     ensures { λ r. ⌜ r ≡ ltb (aborts + ahead m ticket) (m .cores) ⌝ }
 {
@@ -254,8 +254,8 @@ fn ticket_differs(m: Machine, c: usize, ticket: u32) -> bool
     true
 }
 
-// Whether a transaction on core c keeps the rules that tie those in progress: its ticket differs from those before it, is smaller than
-// the count of tickets given, and its aborts are bounded.
+// Whether a transaction on core c keeps the rules that tie those in progress: its ticket differs from those before it and is
+// smaller than the count of tickets given, and its aborts are bounded.
 fn turn_kept(m: Machine, c: usize, ticket: u32, aborts: u8) -> bool
     requires { ⌜ c < 16 ⌝ }
     ensures { λ r. ⌜ r ≡ (each c (λ e. coreAt m e .active ⇒ not (eqb ticket (coreAt m e .ticket))) && ltb ticket (m .tickets)
@@ -270,7 +270,8 @@ fn turn_kept(m: Machine, c: usize, ticket: u32, aborts: u8) -> bool
     aborts_bounded(m, ticket, aborts)
 }
 
-// Whether each transaction in progress keeps those rules, and the count of tickets given is commits + give-ups + transactions in progress.
+// Whether each transaction in progress keeps those rules, and the count of tickets given is commits + give-ups + transactions in
+// progress.
 fn turns_kept(m: Machine) -> bool
     ensures { λ r. ⌜ r ≡ (ticketsDiffer m && ticketsGiven m && abortsBounded m && ticketsCounted m) ⌝ }
 {

@@ -1,5 +1,4 @@
 -- `machine::soundness::aborts_bounded` meets its contract. Assumes nothing.
-use mathlib.Core.Path.{ap}
 use native.Mathlib.Omega.{arith}
 use borrow.Author.Needs.{needs}
 use Rattle.machine.proofs.SoundLaws.{ahead-few}

@@ -25,9 +25,10 @@ returns-2 c =
 
 returns-3 : tie.Need-returns-3
 returns-3 c =
+    let t = c .before .before .before in
     rw (
-      holds (c .before .before .before .before .before .sets-within .ensures) (c .before .before .before .before .if1 .left),
-      holds (c .before .before .before .transaction-tidy .ensures) (c .before .before .if2 .left),
+      holds (t .before .before .sets-within .ensures) (t .before .if1 .left),
+      holds (t .transaction-tidy .ensures) (c .before .before .if2 .left),
       lt-leb _ _ (c .if3 .taken),
     )
 
@@ -36,37 +37,42 @@ unused-zero-requires c κs = search needs
 
 returns-4 : tie.Need-returns-4
 returns-4 c =
+    let u = c .before in
+    let t = u .before .before .before .before in
     rw (
-      holds (c .before .before .before .before .before .before .before .sets-within .ensures) (c .before .before .before .before .before .before .if1 .left),
-      holds (c .before .before .before .before .before .transaction-tidy .ensures) (c .before .before .before .before .if2 .left),
-      le-leb _ _ (c .before .before .if3 .left),
-      breaks (c .before .unused-zero .ensures) (c .if4 .taken),
+      holds (t .before .before .sets-within .ensures) (t .before .if1 .left),
+      holds (t .transaction-tidy .ensures) (u .before .before .before .if2 .left),
+      le-leb _ _ (u .before .if3 .left),
+      breaks (u .unused-zero .ensures) (c .if4 .taken),
     )
 
 owner-first-requires : tie.Need-owner-first-requires
 owner-first-requires c κs =
-    omega (
-      arith,
-      owner-in-list (c .before .before .before .before .before .before .before .before .before .args .k) (holds (c .before .before .before .before .before .before .transaction-tidy .ensures) (c .before .before .before .before .before .if2 .left)) (c .if5 .taken),
-    )
+    let t = c .before .before .before .before .before .before in
+    omega (arith, owner-in-list (t .before .before .before .args .k) (holds (t .transaction-tidy .ensures) (c .before .before .before .before .before .if2 .left)) (c .if5 .taken))
 
 returns-5 : tie.Need-returns-5
 returns-5 c =
+    let u = c .before .before .before in
+    let t = u .before .before .before .before in
     rw (
-      holds (c .before .before .before .before .before .before .before .before .before .sets-within .ensures) (c .before .before .before .before .before .before .before .before .if1 .left),
-      holds (c .before .before .before .before .before .before .before .transaction-tidy .ensures) (c .before .before .before .before .before .before .if2 .left),
-      le-leb _ _ (c .before .before .before .before .if3 .left),
-      holds (c .before .before .before .unused-zero .ensures) (c .before .before .if4 .left),
+      holds (t .before .before .sets-within .ensures) (t .before .if1 .left),
+      holds (t .transaction-tidy .ensures) (u .before .before .before .if2 .left),
+      le-leb _ _ (u .before .if3 .left),
+      holds (u .unused-zero .ensures) (c .before .before .if4 .left),
       c .before .if5 .taken,
-    ) (c .owner-first .ensures)
+    )
+    (c .owner-first .ensures)
 
 returns-6 : tie.Need-returns-6
 returns-6 c =
+    let u = c .before .before in
+    let t = u .before .before .before .before in
     rw (
-      holds (c .before .before .before .before .before .before .before .before .sets-within .ensures) (c .before .before .before .before .before .before .before .if1 .left),
-      holds (c .before .before .before .before .before .before .transaction-tidy .ensures) (c .before .before .before .before .before .if2 .left),
-      le-leb _ _ (c .before .before .before .if3 .left),
-      holds (c .before .before .unused-zero .ensures) (c .before .if4 .left),
+      holds (t .before .before .sets-within .ensures) (t .before .if1 .left),
+      holds (t .transaction-tidy .ensures) (u .before .before .before .if2 .left),
+      le-leb _ _ (u .before .if3 .left),
+      holds (u .unused-zero .ensures) (c .before .if4 .left),
       c .if5 .left,
     )
 

@@ -30,16 +30,17 @@ core-tidy-requires c κs = search needs
 
 returns : tie.Need-returns Inv-loop μ-loop
 returns c =
-    tidy-fails (c .before .before .before .before .before .args .t1) (c .before .before .before .before .loop .c) (c .before .before .before .loop-test .taken)
-    (rw (breaks (c .before .core-tidy .ensures) (c .if1 .taken)))
+    let l = c .before .before .before .before in
+    tidy-fails (l .before .args .t1) (l .loop .c) (c .before .before .before .loop-test .taken) (rw (breaks (c .before .core-tidy .ensures) (c .if1 .taken)))
 
 lacked-blank-requires : tie.Need-lacked-blank-requires Inv-loop μ-loop
 lacked-blank-requires c κs = search needs
 
 returns-2 : tie.Need-returns-2 Inv-loop μ-loop
 returns-2 c =
-    tidy-fails _ _ (c .before .before .before .before .before .loop-test .taken)
-    (ap₂ _&&_ (holds (c .before .before .before .core-tidy .ensures) (c .before .before .if1 .left)) (breaks (c .before .lacked-blank .ensures) (c .if2 .taken)))
+    let t = c .before .before .before in
+    tidy-fails _ _ (t .before .before .loop-test .taken)
+    (ap₂ _&&_ (holds (t .core-tidy .ensures) (c .before .before .if1 .left)) (breaks (c .before .lacked-blank .ensures) (c .if2 .taken)))
 
 add-c : tie.Need-add-c Inv-loop μ-loop
 add-c c = search needs
@@ -48,11 +49,12 @@ loop-less : tie.Need-loop-less Inv-loop μ-loop
 loop-less c = search needs
 
 loop-again : tie.Need-loop-again Inv-loop μ-loop
-loop-again c = (
-  omega arith,
-  each-more _ _ (c .before .before .before .before .before .before .loop .inv .1)
-      (ap₂ _&&_ (holds (c .before .before .before .core-tidy .ensures) (c .before .before .if1 .left)) (holds (c .before .lacked-blank .ensures) (c .if2 .left))),
-)
+loop-again c =
+    let t = c .before .before .before in (
+      omega arith,
+      each-more _ _ (t .before .before .before .loop .inv .1)
+          (ap₂ _&&_ (holds (t .core-tidy .ensures) (c .before .before .if1 .left)) (holds (c .before .lacked-blank .ensures) (c .if2 .left))),
+    )
 
 returns-3 : tie.Need-returns-3 Inv-loop μ-loop
 returns-3 c = tidy-all _ _ (c .loop-test .left) (c .before .loop .inv .0) (c .before .loop .inv .1)

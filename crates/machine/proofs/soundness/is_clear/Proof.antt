@@ -16,26 +16,25 @@ returns-2 c = rw (holds (c .before .before .sets-empty .ensures) (c .before .if1
 
 returns-3 : tie.Need-returns-3
 returns-3 c =
-    rw (
-      holds (c .before .before .before .before .sets-empty .ensures) (c .before .before .before .if1 .left),
-      c .before .before .if2 .left,
-      ne-eqb _ _ (c .if3 .taken),
-    )
+    let z = c .before .before in
+    rw (holds (z .before .before .sets-empty .ensures) (z .before .if1 .left), z .if2 .left, ne-eqb _ _ (c .if3 .taken))
 
 returns-4 : tie.Need-returns-4
 returns-4 c =
+    let z = c .before .before .before .before in
     rw (
-      holds (c .before .before .before .before .before .before .sets-empty .ensures) (c .before .before .before .before .before .if1 .left),
-      c .before .before .before .before .if2 .left,
+      holds (z .before .before .sets-empty .ensures) (z .before .if1 .left),
+      z .if2 .left,
       eq-eqb _ _ (c .before .before .if3 .left),
       ne-eqb _ _ (c .if4 .taken),
     )
 
 returns-5 : tie.Need-returns-5
 returns-5 c =
+    let z = c .before .before .before .before .before in
     rw (
-      holds (c .before .before .before .before .before .before .before .sets-empty .ensures) (c .before .before .before .before .before .before .if1 .left),
-      c .before .before .before .before .before .if2 .left,
+      holds (z .before .before .sets-empty .ensures) (z .before .if1 .left),
+      z .if2 .left,
       eq-eqb _ _ (c .before .before .before .if3 .left),
       eq-eqb _ _ (c .before .if4 .left),
     )

@@ -16,14 +16,16 @@ cores-tidy-requires c κs = search needs
 
 returns-2 : tie.Need-returns-2
 returns-2 c =
-    untidy _ (holds (c .before .before .before .in-range .ensures) (c .before .before .if1 .left)) (breaks (c .before .cores-tidy .ensures) (c .if2 .taken))
+    untidy _ (holds (c .before .before .before .in-range .ensures) (c .before .before .if1 .left))
+    (breaks (c .before .cores-tidy .ensures) (c .if2 .taken))
 
 versions-bounded-requires : tie.Need-versions-bounded-requires
 versions-bounded-requires c κs = search needs
 
 returns-3 : tie.Need-returns-3
 returns-3 c =
-    unbounded _ (holds (c .before .before .before .before .before .in-range .ensures) (c .before .before .before .before .if1 .left)) (holds (c .before .before .before .cores-tidy .ensures) (c .before .before .if2 .left))
+    let t = c .before .before .before in
+    unbounded _ (holds (t .before .before .in-range .ensures) (t .before .if1 .left)) (holds (t .cores-tidy .ensures) (c .before .before .if2 .left))
     (breaks (c .before .versions-bounded .ensures) (c .if3 .taken))
 
 turns-kept-requires : tie.Need-turns-kept-requires
@@ -31,8 +33,10 @@ turns-kept-requires c κs = search needs
 
 returns-4 : tie.Need-returns-4
 returns-4 c =
-    by-turns _ (holds (c .before .before .before .before .before .before .in-range .ensures) (c .before .before .before .before .before .if1 .left)) (holds (c .before .before .before .before .cores-tidy .ensures) (c .before .before .before .if2 .left))
-    (holds (c .before .before .versions-bounded .ensures) (c .before .if3 .left)) (c .turns-kept .ensures)
+    let v = c .before .before in
+    let t = v .before .before in
+    by-turns _ (holds (t .before .before .in-range .ensures) (t .before .if1 .left)) (holds (t .cores-tidy .ensures) (v .before .if2 .left))
+    (holds (v .versions-bounded .ensures) (c .before .if3 .left)) (c .turns-kept .ensures)
 
 pub is-sound-spec : {M : Type 1} → statement M
 is-sound-spec =

@@ -35,7 +35,8 @@ element-copy-out-if1 c = search needs
 
 returns : tie.Need-returns Inv-loop μ-loop
 returns c =
-    owner-not-first (c .before .before .before .before .before .args .k .jobs) _ _ (c .before .before .before .before .before .pre) (c .before .loop-test .taken) (c .if1 .taken)
+    let l = c .before .before in
+    owner-not-first (l .before .before .before .args .k .jobs) _ _ (l .before .before .before .pre) (c .before .loop-test .taken) (c .if1 .taken)
 
 add-p : tie.Need-add-p Inv-loop μ-loop
 add-p c = search needs

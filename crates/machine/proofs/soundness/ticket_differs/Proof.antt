@@ -1,10 +1,9 @@
 -- `machine::soundness::ticket_differs` meets its contract: the ticket differs from those passed. Assumes nothing.
 use mathlib.Core.Path.{_≡_}
 use mathlib.Core.Bool.{true}
-use Prim.Native.Nat.{ℕ, _-_, _≤_, _<_}
+use Prim.Native.Nat.{_-_, _≤_}
 use native.Mathlib.Omega.{arith}
 use mathlib.Core.Logic.{⊎-elim}
-use mathlib.Core.Path.{ap}
 use borrow.Author.Needs.{needs}
 use borrow.Author.Tests.{eq-eqb, ne-eqb}
 use Rattle.objset.specs.Objset.{each}
@@ -30,7 +29,8 @@ element-copy-out-k c = search needs
 
 returns : tie.Need-returns Inv-loop μ-loop
 returns c =
-    each-fails _ _ _ (c .before .before .before .before .loop-test .taken) (rw (c .before .before .if1 .taken, eq-eqb _ _ (c .if2 .taken)))
+    each-fails _ _ _ (c .before .before .before .before .loop-test .taken)
+    (rw (c .before .before .if1 .taken, eq-eqb _ _ (c .if2 .taken)))
 
 add-e : tie.Need-add-e Inv-loop μ-loop
 add-e c = search needs

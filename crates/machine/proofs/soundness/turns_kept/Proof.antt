@@ -1,7 +1,7 @@
 -- `machine::soundness::turns_kept` meets its contract: each transaction passed keeps the rules and is counted. Assumes nothing.
 use mathlib.Core.Path.{_≡_, _∙_}
 use mathlib.Core.Bool.{true}
-use Prim.Native.Nat.{ℕ, _-_, _≤_, _<_}
+use Prim.Native.Nat.{_-_, _≤_}
 use native.Mathlib.Omega.{arith}
 use mathlib.Core.Logic.{⊎-elim}
 use borrow.Author.Needs.{needs}
@@ -32,7 +32,8 @@ turn-kept-requires c κs = search needs
 
 returns : tie.Need-returns Inv-loop μ-loop
 returns c =
-    turn-fails _ _ (c .before .before .before .before .loop-test .taken) (c .before .before .if1 .taken) (breaks (c .before .turn-kept .ensures) (c .if2 .taken))
+    turn-fails _ _ (c .before .before .before .before .loop-test .taken) (c .before .before .if1 .taken)
+    (breaks (c .before .turn-kept .ensures) (c .if2 .taken))
 
 add-n : tie.Need-add-n Inv-loop μ-loop
 add-n c = search needs

@@ -33,12 +33,14 @@ array-copy-out-j c = search needs
 
 returns : tie.Need-returns Inv-loop μ-loop
 returns c =
-    unused-not-zero (c .before .before .before .before .before .before .before .args .k .jobs) _ _ (c .before .before .before .before .loop .inv .0) (c .before .before .before .loop-test .taken)
+    let l = c .before .before .before .before in
+    unused-not-zero (l .before .before .before .args .k .jobs) _ _ (l .loop .inv .0) (c .before .before .before .loop-test .taken)
     (rw (ne-eqb _ _ (c .if1 .taken)))
 
 returns-2 : tie.Need-returns-2 Inv-loop μ-loop
 returns-2 c =
-    unused-not-zero (c .before .before .before .before .before .before .before .before .before .args .k .jobs) _ _ (c .before .before .before .before .before .before .loop .inv .0) (c .before .before .before .before .before .loop-test .taken)
+    let l = c .before .before .before .before .before .before in
+    unused-not-zero (l .before .before .before .args .k .jobs) _ _ (l .loop .inv .0) (c .before .before .before .before .before .loop-test .taken)
     (rw (eq-eqb _ _ (c .before .before .if1 .left), ne-eqb _ _ (c .if2 .taken)))
 
 add-p : tie.Need-add-p Inv-loop μ-loop
@@ -50,7 +52,8 @@ loop-less c = search needs
 loop-again : tie.Need-loop-again Inv-loop μ-loop
 loop-again c = (
   omega arith,
-  below-more _ _ (c .before .before .before .before .before .before .loop .inv .1) (λ h. rw (eq-eqb _ _ (c .before .before .if1 .left), eq-eqb _ _ (c .if2 .left))),
+  below-more _ _ (c .before .before .before .before .before .before .loop .inv .1)
+      (λ h. rw (eq-eqb _ _ (c .before .before .if1 .left), eq-eqb _ _ (c .if2 .left))),
 )
 
 returns-3 : tie.Need-returns-3 Inv-loop μ-loop
