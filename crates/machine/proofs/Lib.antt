@@ -8,6 +8,8 @@ mod JobCalls
 mod Facts
 mod Front
 mod CommitLaws
+mod TestLaws
+mod SoundLaws
 pub mod Case
 pub mod CanFollow
 pub mod Sound

@@ -1,5 +1,5 @@
 mod Turns
-mod Passed
+pub mod Passed
 pub mod Standing
 pub mod Jobs
 mod Cores

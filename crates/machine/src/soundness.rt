@@ -1,0 +1,307 @@
+// The soundness test: whether a record, whatever its fields hold, keeps the standing rules (document 01). Each promise is an
+// equation with the rules' own definitions in specs/Sound.antt. Assumes nothing.
+use crate::Core;
+use crate::Machine;
+ghost use mathlib.Core.Path.{_≡_};
+ghost use mathlib.Core.Bool.{not, _&&_};
+ghost use Prim.Native.Nat.{_+_, _<_};
+ghost use lib.Dec.{eqb, leb, ltb};
+ghost use Rattle.objset.specs.Objset.{each, below};
+ghost use Rattle.machine.specs.Record.{coreAt, jobAt};
+ghost use Rattle.machine.specs.Sound.{_⇒_, emptySets, zeroJob, ahead, sound};
+ghost use Rattle.machine.specs.Sound.{inRange, setsWithin, ownerListed, idleClear, zombieEmpty, atMostEight};
+ghost use Rattle.machine.specs.Sound.{unusedJobs, ownerFirst, lackedCores, versionsBounded, lackedObjects};
+ghost use Rattle.machine.specs.Sound.{ticketsDiffer, ticketsGiven, abortsBounded, ticketsCounted};
+
+// Whether cores and objects (document 01: cards) are in range.
+fn in_range(m: Machine) -> bool
+    ensures { λ r. ⌜ r ≡ inRange m ⌝ }
+{
+    if m.cores == 0 {
+        return false;
+    }
+    if m.cores > 16 {
+        return false;
+    }
+    if m.objects == 0 {
+        return false;
+    }
+    m.objects <= 64
+}
+
+// Whether the core's sets lie within the objects.
+fn sets_within(k: Core, objects: u8) -> bool
+    ensures { λ r. ⌜ r ≡ (below (k .reads) objects && below (k .writes) objects) ⌝ }
+{
+    let n = objects as usize;
+    if !objset::within(k.reads, n) {
+        return false;
+    }
+    objset::within(k.writes, n)
+}
+
+// Whether the core's sets are empty.
+fn sets_empty(k: Core) -> bool
+    ensures { λ r. ⌜ r ≡ emptySets k ⌝ }
+{
+    if k.reads != 0 {
+        return false;
+    }
+    k.writes == 0
+}
+
+// Whether the core has empty sets, no mark, and owner's place, ticket and aborts (document 01: setbacks) 0.
+fn is_clear(k: Core) -> bool
+    ensures { λ r. ⌜ r ≡ (emptySets k && not (k .zombie) && eqb (k .owner) 0 && eqb (k .ticket) 0 && eqb (k .aborts) 0) ⌝ }
+{
+    if !sets_empty(k) {
+        return false;
+    }
+    if k.zombie {
+        return false;
+    }
+    if k.owner != 0 {
+        return false;
+    }
+    if k.ticket != 0 {
+        return false;
+    }
+    k.aborts == 0
+}
+
+// Whether the transaction's job is one of the list's, a core without a transaction is clear, and a marked one has empty sets.
+fn transaction_tidy(k: Core) -> bool
+    ensures { λ r. ⌜ r ≡ ((k .active ⇒ ltb (k .owner) (k .count))
+        && (not (k .active) ⇒ emptySets k && not (k .zombie) && eqb (k .owner) 0 && eqb (k .ticket) 0 && eqb (k .aborts) 0)
+        && (k .zombie ⇒ emptySets k)) ⌝ }
+{
+    if k.active {
+        if k.count <= k.owner {
+            return false;
+        }
+        if k.zombie {
+            return sets_empty(k);
+        }
+        return true;
+    }
+    is_clear(k)
+}
+
+// Whether the unused job places hold zeros.
+fn unused_zero(k: Core) -> bool
+    ensures { λ r. ⌜ r ≡ each 8 (λ p. leb (k .count) p ⇒ zeroJob (jobAt k p)) ⌝ }
+{
+    let jobs = k.jobs;
+    let mut p = k.count as usize;
+    while p < 8 {
+        let j = jobs[p];
+        if j.number != 0 {
+            return false;
+        }
+        if j.deadline != 0 {
+            return false;
+        }
+        p += 1;
+    }
+    true
+}
+
+// Whether every job listed before the owner's has a greater deadline.
+fn owner_first(k: Core) -> bool
+    requires { ⌜ k .owner < 8 ⌝ }
+    ensures { λ r. ⌜ r ≡ each 8 (λ p. ltb p (k .owner) ⇒ ltb (jobAt k (k .owner) .deadline) (jobAt k p .deadline)) ⌝ }
+{
+    let jobs = k.jobs;
+    let owner = k.owner as usize;
+    let deadline = jobs[owner].deadline;
+    let mut p: usize = 0;
+    while p < owner {
+        if jobs[p].deadline <= deadline {
+            return false;
+        }
+        p += 1;
+    }
+    true
+}
+
+// Whether the core keeps the rules that a core keeps by itself: those above, and its list has at most 8 jobs.
+fn core_tidy(k: Core, objects: u8) -> bool
+    ensures { λ r. ⌜ r ≡ (below (k .reads) objects && below (k .writes) objects
+        && (k .active ⇒ ltb (k .owner) (k .count))
+        && (not (k .active) ⇒ emptySets k && not (k .zombie) && eqb (k .owner) 0 && eqb (k .ticket) 0 && eqb (k .aborts) 0)
+        && (k .zombie ⇒ emptySets k)
+        && leb (k .count) 8
+        && each 8 (λ p. leb (k .count) p ⇒ zeroJob (jobAt k p))
+        && (k .active ⇒ each 8 (λ p. ltb p (k .owner) ⇒ ltb (jobAt k (k .owner) .deadline) (jobAt k p .deadline)))) ⌝ }
+{
+    if !sets_within(k, objects) {
+        return false;
+    }
+    if !transaction_tidy(k) {
+        return false;
+    }
+    if k.count > 8 {
+        return false;
+    }
+    if !unused_zero(k) {
+        return false;
+    }
+    if k.active {
+        return owner_first(k);
+    }
+    true
+}
+
+// Whether core c, if the machine lacks it, has no jobs and no transaction.
+fn lacked_blank(k: Core, c: usize, cores: u8) -> bool
+    ensures { λ r. ⌜ r ≡ (leb cores c ⇒ eqb (k .count) 0 && not (k .active)) ⌝ }
+{
+    if c < cores as usize {
+        return true;
+    }
+    if k.count != 0 {
+        return false;
+    }
+    if k.active {
+        return false;
+    }
+    true
+}
+
+// Whether each core is tidy, and each that the machine lacks is blank.
+fn cores_tidy(m: Machine) -> bool
+    ensures { λ r. ⌜ r ≡ (setsWithin m && ownerListed m && idleClear m && zombieEmpty m && atMostEight m && unusedJobs m
+        && ownerFirst m && lackedCores m) ⌝ }
+{
+    let mut c: usize = 0;
+    while c < 16 {
+        let k = m.core[c];
+        if !core_tidy(k, m.objects) {
+            return false;
+        }
+        if !lacked_blank(k, c, m.cores) {
+            return false;
+        }
+        c += 1;
+    }
+    true
+}
+
+// Whether no version exceeds the commits, and the places for objects that the machine lacks hold zeros.
+fn versions_bounded(m: Machine) -> bool
+    ensures { λ r. ⌜ r ≡ (versionsBounded m && lackedObjects m) ⌝ }
+{
+    let objects = m.objects as usize;
+    let versions = m.versions;
+    let mut d: usize = 0;
+    while d < 64 {
+        let v = versions[d];
+        if m.commits < v {
+            return false;
+        }
+        if objects <= d {
+            if v != 0 {
+                return false;
+            }
+        }
+        d += 1;
+    }
+    true
+}
+
+// The number of smaller tickets in progress.
+fn ahead_of(m: Machine, ticket: u32) -> usize
+    ensures { λ r. ⌜ r ≡ ahead m ticket ⌝ }
+{
+    let mut n: usize = 0;
+    let mut e: usize = 0;
+    while e < 16 {
+        let k = m.core[e];
+        if k.active {
+            if k.ticket < ticket {
+                n += 1;
+            }
+        }
+        e += 1;
+    }
+    n
+}
+
+// Whether the aborts (document 01: setbacks) of a transaction plus the number of tickets in progress smaller than its own are at
+// most cores - 1.
+fn aborts_bounded(m: Machine, ticket: u32, aborts: u8) -> bool
+    ensures { λ r. ⌜ r ≡ ltb (aborts + ahead m ticket) (m .cores) ⌝ }
+{
+    let n = ahead_of(m, ticket);
+    aborts as usize + n < m.cores as usize
+}
+
+// Whether the ticket differs from those in progress on the cores before core c.
+fn ticket_differs(m: Machine, c: usize, ticket: u32) -> bool
+    requires { ⌜ c < 16 ⌝ }
+    ensures { λ r. ⌜ r ≡ each c (λ e. coreAt m e .active ⇒ not (eqb ticket (coreAt m e .ticket))) ⌝ }
+{
+    let mut e: usize = 0;
+    while e < c {
+        let k = m.core[e];
+        if k.active {
+            if ticket == k.ticket {
+                return false;
+            }
+        }
+        e += 1;
+    }
+    true
+}
+
+// Whether a transaction on core c keeps the rules that tie those in progress: its ticket differs from those before it and is
+// smaller than the count of tickets given, and its aborts are bounded.
+fn turn_kept(m: Machine, c: usize, ticket: u32, aborts: u8) -> bool
+    requires { ⌜ c < 16 ⌝ }
+    ensures { λ r. ⌜ r ≡ (each c (λ e. coreAt m e .active ⇒ not (eqb ticket (coreAt m e .ticket))) && ltb ticket (m .tickets)
+        && ltb (aborts + ahead m ticket) (m .cores)) ⌝ }
+{
+    if !ticket_differs(m, c, ticket) {
+        return false;
+    }
+    if m.tickets <= ticket {
+        return false;
+    }
+    aborts_bounded(m, ticket, aborts)
+}
+
+// Whether each transaction in progress keeps those rules, and the count of tickets given is commits + give-ups + transactions in
+// progress.
+fn turns_kept(m: Machine) -> bool
+    ensures { λ r. ⌜ r ≡ (ticketsDiffer m && ticketsGiven m && abortsBounded m && ticketsCounted m) ⌝ }
+{
+    let mut n: u64 = 0;
+    let mut c: usize = 0;
+    while c < 16 {
+        let k = m.core[c];
+        if k.active {
+            if !turn_kept(m, c, k.ticket, k.aborts) {
+                return false;
+            }
+            n += 1;
+        }
+        c += 1;
+    }
+    m.tickets as u64 == m.commits as u64 + m.give_ups as u64 + n
+}
+
+// Whether the record is sound: it keeps every standing rule.
+pub fn is_sound(m: Machine) -> bool
+    ensures { λ r. ⌜ r ≡ sound m ⌝ }
+{
+    if !in_range(m) {
+        return false;
+    }
+    if !cores_tidy(m) {
+        return false;
+    }
+    if !versions_bounded(m) {
+        return false;
+    }
+    turns_kept(m)
+}
