@@ -1,6 +1,6 @@
--- The claim about whole runs, demands 2 and 3, as one statement over every list of the seven calls after an accepted setup.
--- Read it from top to bottom; its words are in Words.antt, Rounds.antt and Serial.antt, the rule in the crate machine.
--- Assumes nothing.
+-- The claim about whole runs, demands 2 and 3: one statement about a whole list of the seven calls after an accepted setup. Read
+-- it from top to bottom; its words are in Words.antt, Rounds.antt and Serial.antt, the rules in Rule.antt, what a call's promise
+-- says in Follows.antt. Assumes nothing.
 use mathlib.Core.Path.{_≡_}
 use mathlib.Core.Bool.{Bool, true}
 use mathlib.Core.List.{List, [], _∷_, _++_}
@@ -27,10 +27,14 @@ unfoldable pub worked : World → List Event → World
 worked w₀ [] = w₀
 worked w₀ (e ∷ es) = rule 0 (worked w₀ es) (e .call) .world
 
--- Demand 3, the rule: whenever a call of the list has been made, its answer is the rule's, up to the core named by waits, and so
--- are the record and every word of both tables.
+-- Demand 3, the rule: each call's answer, the record after it and every word of both tables are those that the rules give when
+-- worked from w₀ over the calls alone; only the core named by waits is the run's own.
 pub record ByTheRule (w₀ : World) (es : List Event) (w : World) : Type 0 where
+  -- after the whole list
   pub world-worked : w ≡ worked w₀ es
+  -- after the calls of any beginning of the list, early: the run passed through a world v, and v is the one worked
+  pub passed-worked : (late early : List Event) → es ≡ late ++ early → (v : World) × Run w₀ early v × Run v late w × (v ≡ worked w₀ early)
+  -- the answer of any call of the list
   pub answers-worked : (late early : List Event) (e : Event) → es ≡ late ++ e ∷ early
       → e .answer ≡ rule (named (e .answer)) (worked w₀ early) (e .call) .answer
 

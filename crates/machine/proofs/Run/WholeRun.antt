@@ -22,7 +22,7 @@ use Rattle.machine.proofs.Run.Serially.{serially}
 use Rattle.machine.proofs.Run.Agreement.{Agree}
 use Rattle.machine.proofs.Run.Steps.{Fresh, setup-fresh, agree-fresh, run-agrees}
 
--- ---- a beginning of a run is a run
+-- ---- a run cut in two
 
 -- the newest call of a run
 last-call : {w₀ w : World} {es : List Event} → Run w₀ es w → (e : Event) (early : List Event) → es ≡ e ∷ early
@@ -33,9 +33,14 @@ last-call {w₀} {w} (then {es = es} {w = v} call a run f) e early p =
     let head : record { call = call; answer = a } ≡ e = cc in
     (v, rw tail at run, subst (λ (x : Event). Follows v (x .call) (x .answer) w) head f)
 
-run-early : {w₀ w : World} {es : List Event} (late early : List Event) → Run w₀ es w → es ≡ late ++ early → (v : World) × Run w₀ early v
-run-early {w = w} [] early run p = (w, rw p at run)
-run-early (x ∷ late) early run p = let l = last-call run x (late ++ early) p in run-early late early (l .1) refl
+-- the world that it passed through after the early calls, and the two runs that meet there
+run-through : {w₀ w : World} {es : List Event} (late early : List Event) → Run w₀ es w → es ≡ late ++ early
+    → (v : World) × Run w₀ early v × Run v late w
+run-through {w = w} [] early run p = (w, rw p at run, fresh)
+run-through (x ∷ late) early run p =
+    let l = last-call run x (late ++ early) p in
+    let r = run-through late early (l .1) refl in
+    (r .0, r .1, then (x .call) (x .answer) (r .2) (l .2))
 
 -- ---- worked over the calls alone
 
@@ -68,9 +73,10 @@ by-the-rule : {w₀ w : World} {es : List Event} → Run w₀ es w → ByTheRule
 by-the-rule {w₀} run =
     record {
       world-worked = run-worked run;
+      passed-worked = λ late early p. let r = run-through late early run p in (r .0, r .1, r .2, run-worked (r .1));
       answers-worked =
           λ late early e p.
-          let r = run-early late (e ∷ early) run p in
+          let r = run-through late (e ∷ early) run p in
           let l = last-call (r .1) e early refl in
           l .2 .answer-is ∙ ap (λ (u : World). rule (named (e .answer)) u (e .call) .answer) (run-worked (l .1));
     }
@@ -110,12 +116,12 @@ whole-run cores objects committed pending ready {es} {w} run =
       serially = rw same (serially objects (deeds es) (new .objects-few) o);
       same-cards =
           λ late early p.
-          let r = run-early late early run p in
+          let r = run-through late early run p in
           ap (λ (u : World). u .committed) (sym (run-worked (r .1))) ∙ run-agrees a (r .1) .0 .same-committed
           ∙ ap (λ (n : ℕ). serial n (deeds early)) (sym same);
       same-versions =
           λ late early c d v n p.
-          let r = run-early late (record { call = Read c d; answer = Value v n } ∷ early) run p in
+          let r = run-through late (record { call = Read c d; answer = Value v n } ∷ early) run p in
           let l = last-call (r .1) (record { call = Read c d; answer = Value v n }) early refl in
           read-version (run-agrees a (l .1) .0) (case-of (l .2)) c d v n refl refl;
     }
