@@ -1,5 +1,6 @@
 mod Tally
 mod Entries
+pub mod Refusals
 pub mod Case
 pub mod CanFollow
 pub mod Sound

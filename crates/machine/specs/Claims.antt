@@ -2,9 +2,9 @@
 -- it from top to bottom; its words are in Words.antt, Rounds.antt and Serial.antt, the rules in Rule.antt, what a call's promise
 -- says in Follows.antt. Assumes nothing.
 use mathlib.Core.Path.{_≡_}
-use mathlib.Core.Bool.{Bool, true}
+use mathlib.Core.Bool.{true}
 use mathlib.Core.List.{List, [], _∷_, _++_}
-use Prim.Native.Nat.{ℕ, suc, _+_, _*_, _≤_, _<_}
+use Prim.Native.Nat.{ℕ, _+_, _*_, _≤_, _<_}
 use Rattle.machine.specs.declared.Answer.{Answer}
 use Rattle.machine.specs.declared.Answer.the-variants.{Value}
 use Rattle.machine.specs.Answers.{named}
@@ -12,7 +12,7 @@ use Rattle.machine.specs.Record.{tally}
 use Rattle.machine.specs.Rule.{World, rule, Call, Read}
 use Rattle.machine.specs.Follows.{Follows}
 use Rattle.machine.specs.Words.{Event, Deed, begins, waits, commits, deeds, inProgress, births, born, ahead, attempt, strikes, conflict, struck, setBacks}
-use Rattle.machine.specs.Rounds.{Rounds, Fate, fate, committed, given-up, AtMost}
+use Rattle.machine.specs.Rounds.{Rounds, fate, committed, given-up, AtMost}
 use Rattle.machine.specs.Serial.{replays, serial, stood, settled, version}
 
 -- A run from the world w₀: each call gets the record that the last one returned and is lent the tables as the calls before left

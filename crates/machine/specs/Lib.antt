@@ -2,6 +2,7 @@ pub mod Record
 pub mod Sound
 pub mod Answers
 pub mod Rule
+pub mod Refusals
 pub mod Follows
 pub mod Words
 pub mod Rounds

@@ -1,26 +1,25 @@
 -- The claim about whole runs holds. Assumes nothing.
-use mathlib.Core.Path.{_≡_, refl, sym, ap, ap₂, subst, _∙_}
-use mathlib.Core.Bool.{Bool, true, false, cond, not, _&&_}
+use mathlib.Core.Path.{_≡_, refl, sym, ap, subst, _∙_}
+use mathlib.Core.Bool.{Bool, true, false, cond}
 use mathlib.Core.List.{List, [], _∷_, _++_}
-use Prim.Native.Nat.{ℕ, zero, suc, _*_, _<_}
+use Prim.Native.Nat.{ℕ, zero, suc}
 use native.Mathlib.Omega.{arith}
-use lib.ListN.{length, getD, replicate}
+use lib.ListN.{getD}
 use Rattle.machine.specs.declared.Answer.{Answer}
 use Rattle.machine.specs.declared.Answer.the-variants.{Ready, Value}
-use Rattle.machine.specs.Answers.{named, values}
-use Rattle.machine.specs.Record.{coreAt, machineOf}
+use Rattle.machine.specs.Answers.{named}
+use Rattle.machine.specs.Record.{coreAt}
 use Rattle.machine.specs.Rule as Rule
 use Rattle.machine.specs.Rule.{World, Call, Release, Begin, Read, Write, Commit, GiveUp, Finish, rule}
 use Rattle.machine.specs.Follows.{Follows}
 use Rattle.machine.proofs.Case.{Case, is-refused, is-released, is-begun, is-told, is-valued, is-written, is-waiting, is-through, is-ended, is-finished, case-of}
 use Rattle.machine.specs.Words.{Event, Deed, deeds}
 use Rattle.machine.specs.Serial.{serial, version}
-use Rattle.machine.specs.Claims.{Run, fresh, then, worked, ByTheRule, Served, Serial, Claim}
-use Rattle.machine.proofs.Run.Orderly.{Orderly}
+use Rattle.machine.specs.Claims.{Run, fresh, then, worked, ByTheRule, Claim}
 use Rattle.machine.proofs.Run.Served.{served}
 use Rattle.machine.proofs.Run.Serially.{serially}
 use Rattle.machine.proofs.Run.Agreement.{Agree}
-use Rattle.machine.proofs.Run.Steps.{Fresh, setup-fresh, agree-fresh, run-agrees}
+use Rattle.machine.proofs.Run.Steps.{setup-fresh, agree-fresh, run-agrees}
 
 -- ---- a run cut in two
 
