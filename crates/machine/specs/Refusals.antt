@@ -17,7 +17,7 @@ objectOf (Commit c) = 0
 objectOf (GiveUp c) = 0
 objectOf (Finish c) = 0
 
--- the entry for a call in a row of the table: release, begin, read, write, commit, give up, finish
+-- the entry for a call in a row of the table
 abbrev pub at : Call → Bool → Bool → Bool → Bool → Bool → Bool → Bool → Bool
 at (Release c number deadline) r b d w k g f = r
 at (Begin c) r b d w k g f = b
@@ -34,7 +34,8 @@ abbrev ✓ : Bool
 abbrev ∘ : Bool
 ∘ = false
 
--- the table of the calls after setup: the conditions and their numbers
+-- the table of the calls after setup, in document 01's order: the conditions and their numbers; the columns are release, begin, read,
+-- write, commit, give up, finish, and a row without columns is for all of them
 unfoldable pub refusals : World → Call → List (Bool × ℕ)
 refusals w call =
     let m : Machine = w .machine in
