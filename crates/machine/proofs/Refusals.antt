@@ -72,6 +72,22 @@ first-smallest k (x ∷ xs) up = go (x .0) refl (first-smallest (x .1) xs later)
           none-smaller = λ n p. more .none-smaller n (sym (skips n) ∙ p);
         }
 
+-- no number applies: the first condition does not hold, nor do the others
+pub passed : (b : Bool) (n : ℕ) (xs : List (Bool × ℕ)) → first ((b, suc n) ∷ xs) ≡ 0 → (b ≡ false) × (first xs ≡ 0)
+unfolding first
+passed true n xs e = absurd (omega arith)
+passed false n xs e = (refl, e)
+
+-- ---- read, write and commit test in the order of document 01's numbers
+
+access-in-order : (w : World) (c d : ℕ) → accessRefusal w c d ≡ first (refusals w (Read c d))
+unfolding accessRefusal refusals first
+access-in-order w c d = refl
+
+commit-in-order : (w : World) (c : ℕ) → commitRefusal w c ≡ first (refusals w (Commit c))
+unfolding commitRefusal refusals first
+commit-in-order w c = refl
+
 -- ---- an accepted call gives no number
 
 -- an answer that is no refusal
@@ -115,17 +131,20 @@ lent-refuses (suc r) w x h = (refl, λ n p. refl)
 refuses : (e : ℕ) (w : World) (call : Call)
     → (number (rule e w call .answer) ≡ first (refusals w call))
     × ((n : ℕ) → number (rule e w call .answer) ≡ suc n → rule e w call .world ≡ w)
-unfolding rule refusals first release begin read write accessRefusal commit giveUp finish commitRefusal
+unfolding rule refusals first release begin read write commit giveUp finish
 refuses e w (Release c n deadline) =
     let r = unless-refuses _ (w .machine) _ (accepted-release (w .machine) c n deadline) in (r .0, λ k p. ap (withMachine w) (r .1 k p))
 refuses e w (Begin c) =
     let r = unless-refuses _ (w .machine) (begun (w .machine) c) (unfold begun number in refl) in (r .0, λ k p. ap (withMachine w) (r .1 k p))
 refuses e w (Read c d) =
-    lent-refuses _ w _ (accepted-access (coreAt (w .machine) c .zombie) w c (valued w c d) (unfold valued number in refl))
+    let r = lent-refuses (accessRefusal w c d) w _ (accepted-access (coreAt (w .machine) c .zombie) w c (valued w c d) (unfold valued number in refl)) in
+    (r .0 ∙ access-in-order w c d, r .1)
 refuses e w (Write c d v) =
-    lent-refuses _ w _ (accepted-access (coreAt (w .machine) c .zombie) w c (written w c d v) (unfold written number in refl))
+    let r = lent-refuses (accessRefusal w c d) w _ (accepted-access (coreAt (w .machine) c .zombie) w c (written w c d v) (unfold written number in refl)) in
+    (r .0 ∙ access-in-order w c d, r .1)
 refuses e w (Commit c) =
-    lent-refuses _ w _ (accepted-access (coreAt (w .machine) c .zombie) w c _ (accepted-commit (blocked (w .machine) c) e w c))
+    let r = lent-refuses (commitRefusal w c) w _ (accepted-access (coreAt (w .machine) c .zombie) w c _ (accepted-commit (blocked (w .machine) c) e w c)) in
+    (r .0 ∙ commit-in-order w c, r .1)
 refuses e w (GiveUp c) =
     let r = unless-refuses _ (w .machine) (ended (w .machine) c) (unfold ended number in refl) in (r .0, λ k p. ap (withMachine w) (r .1 k p))
 refuses e w (Finish c) =
