@@ -3,21 +3,21 @@
 use mathlib.Core.Path.{_≡_, refl, sym, subst₂, _∙_}
 use mathlib.Core.Bool.{Bool, true, false, cond, not, _&&_, true≢false}
 use mathlib.Core.List.{List, [], _∷_}
-use Prim.Native.Nat.{ℕ, zero, suc, _*_, _≤_, _<_}
-use native.Mathlib.Omega.{arith}
-use lib.Dec.{eqb, leb, ltb}
+use Prim.Native.Nat.{ℕ, zero, suc, _*_, _<_}
+use lib.Dec.{eqb, ltb}
 use lib.ListN.{length}
 use borrow.Author.Tests.{ltb-true, leb-false, eqb-true, eqb-false, not-false}
+use Rattle.objset.proofs.Laws.{both-left, both-right}
 use Rattle.machine.specs.declared.Machine.{Machine}
-use Rattle.machine.specs.declared.Core.{Core}
 use Rattle.machine.specs.declared.Answer.{Answer}
-use Rattle.machine.specs.declared.Answer.the-variants.{Ready, Running, Queued, Begun, Value, Written, Waits, Committed, SetBack, Ended, Finished, Refused}
+use Rattle.machine.specs.declared.Answer.the-variants.{Begun, Written, Waits, SetBack, Ended, Refused}
 use Rattle.machine.specs.declared.Outcome.{Outcome}
 use Rattle.machine.specs.Record.{coreAt}
 use Rattle.machine.specs.Sound.{sound}
 use Rattle.machine.specs.Answers.{named}
 use Rattle.machine.specs.Follows.{Follows}
-use Rattle.machine.specs.Rule.{World, Result, withMachine, first, unless, unlessLent, misfit, unsound, wrongTables, noSuchCore, noSuchObject, fullList, jobless, inProgress, ticketsSpent, released, release, begun, begin, told, accessRefusal, valueRead, valued, read, written, write, contender, blocked, through, waiting, commitRefusal, commit, ended, giveUp, finished, finish, rule, unlent, Call, Release, Begin, Read, Write, Commit, GiveUp, Finish, coreOf}
+use Rattle.machine.specs.Rule.{World, Result, withMachine, first, unless, unlessLent, unsound, wrongTables, noSuchCore, noSuchObject, fullList, jobless, inProgress, ticketsSpent, released, release, begun, begin, told, accessRefusal, valued, read, written, write, conflict, contender, blocked, through, waiting, commitRefusal, commit, ended, giveUp, finished, finish, rule, Call, Release, Begin, Read, Write, Commit, GiveUp, Finish, coreOf}
+use Rattle.machine.proofs.Refusals.{passed}
 
 -- the record is sound and the core is one of the machine's
 pub record Core-ok (m : Machine) (c : ℕ) : Type 0 where
@@ -36,6 +36,19 @@ pub data Asks : Call → ℕ → Type 0 where
   asks-read : {c d : ℕ} → Asks (Read c d) c
   asks-write : {c d v : ℕ} → Asks (Write c d v) c
   asks-commit : {c : ℕ} → Asks (Commit c) c
+
+-- core e holds a conflicting transaction with a smaller ticket than core c's
+pub contends : (m : Machine) (c e : ℕ) → contender m c e ≡ true
+    → (coreAt m e .active ≡ true) × (coreAt m e .ticket < coreAt m c .ticket) × (conflict (coreAt m c) (coreAt m e) ≡ true)
+unfolding contender
+contends m c e p =
+    let active = coreAt m e .active in
+    let less = ltb (coreAt m e .ticket) (coreAt m c .ticket) in
+    let two : (active && less) ≡ true = both-left (active && less) (conflict (coreAt m c) (coreAt m e)) p in (
+      both-left active less two,
+      ltb-true (coreAt m e .ticket) (coreAt m c .ticket) (both-right active less two),
+      both-right (active && less) (conflict (coreAt m c) (coreAt m e)) p,
+    )
 
 pub data Case (w : World) : Call → Answer → World → Type 0 where
   is-refused : {call : Call} {n : ℕ} → Case w call (Refused (suc n)) w
@@ -59,11 +72,6 @@ pub data Case (w : World) : Call → Answer → World → Type 0 where
       → Case w (Finish c) (finished (w .machine) c .answer) (withMachine w (finished (w .machine) c .machine))
 
 -- ---- no refusal applies: none of its conditions holds
-
-passed : (b : Bool) (n : ℕ) (xs : List (Bool × ℕ)) → first ((b, suc n) ∷ xs) ≡ 0 → (b ≡ false) × (first xs ≡ 0)
-unfolding first
-passed true n xs e = absurd (omega arith)
-passed false n xs e = (refl, e)
 
 core-ok : (m : Machine) (c : ℕ) → unsound m ≡ false → noSuchCore m c ≡ false → Core-ok m c
 core-ok m c s l = record { is-sound = not-false (sound m) s; is-core = ltb-true c (m .cores) (not-false (ltb c (m .cores)) l) }

@@ -10,6 +10,7 @@ mod Front
 mod CommitLaws
 mod TestLaws
 mod SoundLaws
+pub mod Refusals
 pub mod Case
 pub mod CanFollow
 pub mod Sound

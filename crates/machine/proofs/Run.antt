@@ -17,3 +17,4 @@ mod Agreement
 mod AgreementCommit
 mod Steps
 pub mod WholeRun
+pub mod EveryList

@@ -1,5 +1,5 @@
--- Document 01's number and values for each case of the answer enum, and the test that two answers are the same.
--- Assumes nothing.
+-- Document 01's number and values for each case of the answer enum, and the test that two answers are the same. The document
+-- numbers refusals only; so that answers can be compared, `kind` gives each case its place in the enum. Assumes nothing.
 use mathlib.Core.Bool.{Bool, true, false, _&&_}
 use mathlib.Core.List.{List, [], _∷_}
 use Prim.Native.Nat.{ℕ}
@@ -7,7 +7,22 @@ use lib.Dec.{eqb}
 use Rattle.machine.specs.declared.Answer.{Answer}
 use Rattle.machine.specs.declared.Answer.the-variants.{Ready, Running, Queued, Begun, Value, Written, Waits, Committed, SetBack, Ended, Finished, Refused}
 
--- the answer's number: its place among the twelve kinds of answer
+-- the number of a refusal; 0 for an answer that is none
+unfoldable pub number : Answer → ℕ
+number Ready = 0
+number Running = 0
+number Queued = 0
+number (Begun t) = 0
+number (Value v n) = 0
+number Written = 0
+number (Waits c) = 0
+number (Committed n) = 0
+number SetBack = 0
+number Ended = 0
+number (Finished j) = 0
+number (Refused n) = n
+
+-- which case it is: its place in the enum
 unfoldable pub kind : Answer → ℕ
 kind Ready = 0
 kind Running = 1
@@ -22,7 +37,7 @@ kind Ended = 9
 kind (Finished j) = 10
 kind (Refused n) = 11
 
--- the answer's values: begin's ticket, read's value and version, the core named by waits, commit's setbacks, finish's job,
+-- the values that an answer carries: begin's ticket, read's value and version, the core named by waits, commit's setbacks, finish's job,
 -- refusal's number
 unfoldable pub values : Answer → List ℕ
 values Ready = []

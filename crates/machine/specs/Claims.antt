@@ -1,10 +1,10 @@
--- The claim about whole runs, demands 2 and 3, as one statement over every list of the seven calls after an accepted setup.
--- Read it from top to bottom; its words are in Words.antt, Rounds.antt and Serial.antt, the rule in the crate machine.
--- Assumes nothing.
+-- The claim about whole runs, demands 2 and 3: one statement about a whole list of the seven calls after an accepted setup. Read
+-- it from top to bottom; its words are in Words.antt, Rounds.antt and Serial.antt, the rules in Rule.antt, what a call's promise
+-- says in Follows.antt. Assumes nothing.
 use mathlib.Core.Path.{_≡_}
-use mathlib.Core.Bool.{Bool, true}
+use mathlib.Core.Bool.{true}
 use mathlib.Core.List.{List, [], _∷_, _++_}
-use Prim.Native.Nat.{ℕ, suc, _+_, _*_, _≤_, _<_}
+use Prim.Native.Nat.{ℕ, _+_, _*_, _≤_, _<_}
 use Rattle.machine.specs.declared.Answer.{Answer}
 use Rattle.machine.specs.declared.Answer.the-variants.{Value}
 use Rattle.machine.specs.Answers.{named}
@@ -12,7 +12,7 @@ use Rattle.machine.specs.Record.{tally}
 use Rattle.machine.specs.Rule.{World, rule, Call, Read}
 use Rattle.machine.specs.Follows.{Follows}
 use Rattle.machine.specs.Words.{Event, Deed, begins, waits, commits, deeds, inProgress, births, born, ahead, attempt, strikes, conflict, struck, setBacks}
-use Rattle.machine.specs.Rounds.{Rounds, Fate, fate, committed, given-up, AtMost}
+use Rattle.machine.specs.Rounds.{Rounds, fate, committed, given-up, AtMost}
 use Rattle.machine.specs.Serial.{replays, serial, stood, settled, version}
 
 -- A run from the world w₀: each call gets the record that the last one returned and is lent the tables as the calls before left
@@ -27,16 +27,20 @@ unfoldable pub worked : World → List Event → World
 worked w₀ [] = w₀
 worked w₀ (e ∷ es) = rule 0 (worked w₀ es) (e .call) .world
 
--- Demand 3, the rule: whenever a call of the list has been made, its answer is the rule's, up to the core named by waits, and so
--- are the record and every word of both tables.
+-- Demand 3, the rule: each call's answer, the record after it and every word of both tables are those that the rules give when
+-- worked from w₀ over the calls alone; only the core named by waits may differ.
 pub record ByTheRule (w₀ : World) (es : List Event) (w : World) : Type 0 where
+  -- the record and both tables after the whole list
   pub world-worked : w ≡ worked w₀ es
+  -- and after the calls of any beginning of it, early: the run passed through a world v, and v is the one worked
+  pub passed-worked : (late early : List Event) → es ≡ late ++ early → (v : World) × Run w₀ early v × Run v late w × (v ≡ worked w₀ early)
+  -- the answer of each call, the rule being told the core that it names
   pub answers-worked : (late early : List Event) (e : Event) → es ≡ late ++ e ∷ early
       → e .answer ≡ rule (named (e .answer)) (worked w₀ early) (e .call) .answer
 
 -- Demand 3, of every transaction T begun in the list. A moment is a list of the deeds so far, early; late is what came after it.
 pub record Served (h : List Deed) : Type 0 where
-  -- set back at most k times, k being the earlier ones in progress at its begin
+  -- set back at most k times, by any moment while it is in progress; k, `ahead`, counts the earlier ones in progress at its begin
   pub at-most-k : (late early : List Deed) (c : ℕ) → h ≡ late ++ early → inProgress early c ≡ true → struck early c ≤ ahead early c
   -- never by a later one
   pub never-by-later : (late early : List Deed) (b n c : ℕ) → h ≡ late ++ commits b n ∷ early → strikes (commits b n) early c ≡ true
@@ -54,19 +58,19 @@ pub record Served (h : List Deed) : Type 0 where
 
 -- Demand 2. The committed transactions' last attempts, run one after another in commit order on a table of their own.
 pub record Serial (objects : ℕ) (h : List Deed) : Type 0 where
-  -- each read what it would have read
+  -- each read what it would have read had only these run before it
   pub same-reads : (late early : List Deed) (c n : ℕ) → h ≡ late ++ commits c n ∷ early → replays (attempt early c) (serial objects early) ≡ true
-  -- the committed values handed to any one attempt stood together after setup or after one commit
+  -- the committed values handed to any one attempt, by any moment, stood together after setup or after one commit
   pub together : (late early : List Deed) (c : ℕ) → h ≡ late ++ early
       → (between then-on : List Deed) × (early ≡ between ++ then-on) × (settled then-on ≡ true)
       × (stood (attempt early c) (serial objects then-on) ≡ true)
 
--- the whole claim
+-- The whole claim, about a run from w₀ over the list es to the world w.
 pub record Claim (w₀ : World) (es : List Event) (w : World) : Type 0 where
   pub by-the-rule : ByTheRule w₀ es w
   pub served : Served (deeds es)
   pub serially : Serial (w₀ .machine .objects) (deeds es)
-  -- and what they left in the cards is what the run left, after every call
+  -- and the serial run left in the cards what the run left, after each call
   pub same-cards : (late early : List Event) → es ≡ late ++ early → worked w₀ early .committed ≡ serial (w₀ .machine .objects) (deeds early)
   -- the version that a read gives is the count of commits that wrote the card
   pub same-versions : (late early : List Event) (c d v n : ℕ) → es ≡ late ++ record { call = Read c d; answer = Value v n } ∷ early

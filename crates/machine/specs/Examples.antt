@@ -1,5 +1,5 @@
--- The starred examples of document 01, one table: a setup, the calls after it with their answers, and the cards at the end.
--- One computed test proves the whole table. Assumes nothing.
+-- The starred examples of document 01, and K, as one table: a setup, the calls after it with their answers, and the cards at the
+-- end. One computed test proves the whole table. Assumes nothing.
 use mathlib.Core.Path.{_≡_, refl}
 use mathlib.Core.Bool.{Bool, true, _&&_}
 use mathlib.Core.List.{List, [], _∷_, _++_}
@@ -167,11 +167,25 @@ exampleJ =
       cards = 0 ∷ [];
     }
 
+-- a job of deadline 10 released during a transaction of a job of deadline 90 is queued, and runs after commit: it is the one that
+-- finish takes
+exampleK : Example
+exampleK =
+    record {
+      cores = 1;
+      objects = 1;
+      ready = Ready;
+      calls =
+          (Release 0 1 90 ⇝ Running) ∷ (Begin 0 ⇝ Begun 0) ∷ (Release 0 2 10 ⇝ Queued) ∷ (Commit 0 ⇝ Committed 0) ∷ (Finish 0 ⇝ Finished 2)
+          ∷ (Finish 0 ⇝ Finished 1) ∷ [];
+      cards = 0 ∷ [];
+    }
+
 pub examples : List Example
 examples =
     (exampleA ∷ exampleB) ++ exampleC
-    ++ (exampleD ∷ exampleE ∷ exampleF ∷ exampleG ∷ exampleH ∷ exampleI ∷ exampleJ ∷ [])
+    ++ (exampleD ∷ exampleE ∷ exampleF ∷ exampleG ∷ exampleH ∷ exampleI ∷ exampleJ ∷ exampleK ∷ [])
 
 pub all-hold : allHold examples ≡ true
-unfolding examples exampleA refusedSetup acceptedSetup exampleB exampleC exampleD exampleE exampleF bothBegun exampleG exampleH exampleI exampleJ allHold holds follows rule setup first unless unlessLent released release begun begin told accessRefusal valueRead valued read written write contender blocked struck cleared changed through commitRefusal commit ended giveUp finished finish kind values named sameList sameAnswer tally least running inRange setsWithin ownerListed idleClear zombieEmpty atMostEight unusedJobs lackedCores lackedObjects ownerFirst ticketsDiffer ticketsGiven ticketsCounted versionsBounded ahead abortsBounded sound has collect some each none added joined meeting below
+unfolding examples exampleA refusedSetup acceptedSetup exampleB exampleC exampleD exampleE exampleF bothBegun exampleG exampleH exampleI exampleJ exampleK allHold holds follows rule setup first unless unlessLent released release begun begin told accessRefusal valueRead valued read written write contender blocked struck cleared changed through commitRefusal commit ended giveUp finished finish kind values named sameList sameAnswer tally least running inRange setsWithin ownerListed idleClear zombieEmpty atMostEight unusedJobs lackedCores lackedObjects ownerFirst ticketsDiffer ticketsGiven ticketsCounted versionsBounded ahead abortsBounded sound has collect some each none added joined meeting below
 all-hold = refl

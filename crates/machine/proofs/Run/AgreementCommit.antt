@@ -135,7 +135,7 @@ module _ {o : ℕ} {w : World} {h : List Deed} (a : Agree o w h) (c : ℕ) (ok :
         cores-few = a .cores-few;
         objects-few = a .objects-few;
         same-objects = a .same-objects;
-        versions-long = changed-long ws (λ d v. v + 1) 0 (w .machine .versions) ∙ a .versions-long;
+        versions-long = changed-long ws _ 0 (w .machine .versions) ∙ a .versions-long;
         same-tickets = a .same-tickets ∙ sym (zero-add (births h));
         each-core = cores-left;
         same-committed = cards-left;

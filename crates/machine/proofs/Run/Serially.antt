@@ -1,7 +1,7 @@
 -- Demand 2, from what each deed finds: at every moment the present attempt of each core would read again what it read, run alone on
 -- the cards as the commits so far left them. So it does at its commit, and the committed values handed to it stand together since the
 -- newest commit. Assumes nothing.
-use mathlib.Core.Path.{_≡_, refl, sym, ap, ap₂, _∙_}
+use mathlib.Core.Path.{_≡_, refl, sym, ap, ap₂, subst, _∙_}
 use mathlib.Core.Bool.{Bool, true, false, cond, not, _&&_, _||_, true≢false}
 use mathlib.Core.List.{List, [], _∷_, _++_}
 use Prim.Native.Nat.{ℕ, _≤_, _<_}
@@ -9,7 +9,7 @@ use lib.Dec.{eqb}
 use lib.ListN.{getD}
 use borrow.Author.Tests.{eqb-true, eq-eqb}
 use Rattle.machine.specs.Words.{Deed, begins, reads, writes, waits, commits, told, gives, other, inProgress, attempt, crosses}
-use Rattle.machine.specs.Serial.{effect, replays, serial, settled}
+use Rattle.machine.specs.Serial.{effect, replays, serial, stood, settled}
 use Rattle.machine.specs.Claims.{Serial}
 use Rattle.machine.proofs.Run.Orderly.{Orderly}
 use Rattle.machine.proofs.Run.Moments.{orderly-early}
@@ -132,5 +132,5 @@ serially o h fits r =
       together = λ late early c e.
           let now = current o early c fits (orderly-early o h late early e r) in
           let l = left o early in
-          (l .between, l .then-on, l .split, l .is-settled, rw (l .same-cards) (replays-stood (now .steps) (serial o early) (now .rereads)));
+          (l .between, l .then-on, l .split, l .is-settled, subst (λ (t : List ℕ). stood (attempt early c) t ≡ true) (sym (l .same-cards)) (replays-stood (now .steps) (serial o early) (now .rereads)));
     }

@@ -16,7 +16,7 @@ use Rattle.machine.specs.Answers.{kind, values}
 use Rattle.machine.specs.Record.{noCore, coreAt, blankCore, blank, machineOf}
 use Rattle.machine.specs.Rule as Rule
 use Rattle.machine.specs.Rule.{World, Call}
-use Rattle.machine.proofs.Case.{Case, is-refused, is-released, is-begun, is-told, is-valued, is-written, is-waiting, is-through, is-ended, is-finished, case-of}
+use Rattle.machine.proofs.Case.{Case, is-refused, is-released, is-begun, is-told, is-valued, is-written, is-waiting, is-through, is-ended, is-finished, contends, case-of}
 use Rattle.objset.proofs.Laws.{both-left, both-right}
 use Rattle.machine.specs.Words.{Event, Deed, begins, reads, writes, waits, commits, told, gives, other, amounts, deeds, inProgress, births, born, any, wrote, conflict, crosses, attempt, struck, setBacks}
 use Rattle.machine.specs.Serial.{serial, version}
@@ -30,18 +30,17 @@ use Rattle.machine.proofs.Run.AgreementCommit.{step-commits, finds-comm
 -- the core that waits names has an earlier transaction in conflict
 finds-waits : {o : ℕ} {w : World} {h : List Deed} → Agree o w h → (c e : ℕ) → coreAt (w .machine) c .active ≡ true → Rule.contender (w .machine) c e ≡ true
     → (inProgress h e ≡ true) × (born h e < born h c) × (conflict h c e ≡ true)
-unfolding Rule.contender conflict
+unfolding conflict
 finds-waits {o} {w} {h} a c e going ahead =
     let k = coreAt (w .machine) c in
     let j = coreAt (w .machine) e in
-    let active : j .active ≡ true = both-left (j .active) (ltb (j .ticket) (k .ticket)) (both-left (j .active && ltb (j .ticket) (k .ticket)) _ ahead) in
-    let less : ltb (j .ticket) (k .ticket) ≡ true = both-right (j .active) (ltb (j .ticket) (k .ticket)) (both-left (j .active && ltb (j .ticket) (k .ticket)) _ ahead) in
-    let there : inProgress h e ≡ true = sym (a .each-core e .same-going) ∙ active in
+    let found = contends (w .machine) c e ahead in
+    let there : inProgress h e ≡ true = sym (a .each-core e .same-going) ∙ found .0 in
     let here : inProgress h c ≡ true = sym (a .each-core c .same-going) ∙ going in (
       there,
-      omega (arith, ltb-true (j .ticket) (k .ticket) less, a .each-core e .same-order there, a .each-core c .same-order here),
+      omega (arith, found .1, a .each-core e .same-order there, a .each-core c .same-order here),
       sym (ap₂ _||_ (meets-crosses k j (view h c) (view h e) (a .each-core c) (a .each-core e)) (meets-crosses j k (view h e) (view h c) (a .each-core e) (a .each-core c)))
-          ∙ both-right (j .active && ltb (j .ticket) (k .ticket)) _ ahead,
+          ∙ found .2,
     )
 
 -- a marked one has one strike that it was not told of

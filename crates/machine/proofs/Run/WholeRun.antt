@@ -1,28 +1,27 @@
 -- The claim about whole runs holds. Assumes nothing.
-use mathlib.Core.Path.{_≡_, refl, sym, ap, ap₂, subst, _∙_}
-use mathlib.Core.Bool.{Bool, true, false, cond, not, _&&_}
+use mathlib.Core.Path.{_≡_, refl, sym, ap, subst, _∙_}
+use mathlib.Core.Bool.{Bool, true, false, cond}
 use mathlib.Core.List.{List, [], _∷_, _++_}
-use Prim.Native.Nat.{ℕ, zero, suc, _*_, _<_}
+use Prim.Native.Nat.{ℕ, zero, suc}
 use native.Mathlib.Omega.{arith}
-use lib.ListN.{length, getD, replicate}
+use lib.ListN.{getD}
 use Rattle.machine.specs.declared.Answer.{Answer}
 use Rattle.machine.specs.declared.Answer.the-variants.{Ready, Value}
-use Rattle.machine.specs.Answers.{named, values}
-use Rattle.machine.specs.Record.{coreAt, machineOf}
+use Rattle.machine.specs.Answers.{named}
+use Rattle.machine.specs.Record.{coreAt}
 use Rattle.machine.specs.Rule as Rule
 use Rattle.machine.specs.Rule.{World, Call, Release, Begin, Read, Write, Commit, GiveUp, Finish, rule}
 use Rattle.machine.specs.Follows.{Follows}
 use Rattle.machine.proofs.Case.{Case, is-refused, is-released, is-begun, is-told, is-valued, is-written, is-waiting, is-through, is-ended, is-finished, case-of}
 use Rattle.machine.specs.Words.{Event, Deed, deeds}
 use Rattle.machine.specs.Serial.{serial, version}
-use Rattle.machine.specs.Claims.{Run, fresh, then, worked, ByTheRule, Served, Serial, Claim}
-use Rattle.machine.proofs.Run.Orderly.{Orderly}
+use Rattle.machine.specs.Claims.{Run, fresh, then, worked, ByTheRule, Claim}
 use Rattle.machine.proofs.Run.Served.{served}
 use Rattle.machine.proofs.Run.Serially.{serially}
 use Rattle.machine.proofs.Run.Agreement.{Agree}
-use Rattle.machine.proofs.Run.Steps.{Fresh, setup-fresh, agree-fresh, run-agrees}
+use Rattle.machine.proofs.Run.Steps.{setup-fresh, agree-fresh, run-agrees}
 
--- ---- a beginning of a run is a run
+-- ---- a run cut in two
 
 -- the newest call of a run
 last-call : {w₀ w : World} {es : List Event} → Run w₀ es w → (e : Event) (early : List Event) → es ≡ e ∷ early
@@ -33,9 +32,14 @@ last-call {w₀} {w} (then {es = es} {w = v} call a run f) e early p =
     let head : record { call = call; answer = a } ≡ e = cc in
     (v, rw tail at run, subst (λ (x : Event). Follows v (x .call) (x .answer) w) head f)
 
-run-early : {w₀ w : World} {es : List Event} (late early : List Event) → Run w₀ es w → es ≡ late ++ early → (v : World) × Run w₀ early v
-run-early {w = w} [] early run p = (w, rw p at run)
-run-early (x ∷ late) early run p = let l = last-call run x (late ++ early) p in run-early late early (l .1) refl
+-- the world that it passed through after the early calls, and the two runs that meet there
+run-through : {w₀ w : World} {es : List Event} (late early : List Event) → Run w₀ es w → es ≡ late ++ early
+    → (v : World) × Run w₀ early v × Run v late w
+run-through {w = w} [] early run p = (w, rw p at run, fresh)
+run-through (x ∷ late) early run p =
+    let l = last-call run x (late ++ early) p in
+    let r = run-through late early (l .1) refl in
+    (r .0, r .1, then (x .call) (x .answer) (r .2) (l .2))
 
 -- ---- worked over the calls alone
 
@@ -68,9 +72,10 @@ by-the-rule : {w₀ w : World} {es : List Event} → Run w₀ es w → ByTheRule
 by-the-rule {w₀} run =
     record {
       world-worked = run-worked run;
+      passed-worked = λ late early p. let r = run-through late early run p in (r .0, r .1, r .2, run-worked (r .1));
       answers-worked =
           λ late early e p.
-          let r = run-early late (e ∷ early) run p in
+          let r = run-through late (e ∷ early) run p in
           let l = last-call (r .1) e early refl in
           l .2 .answer-is ∙ ap (λ (u : World). rule (named (e .answer)) u (e .call) .answer) (run-worked (l .1));
     }
@@ -110,12 +115,12 @@ whole-run cores objects committed pending ready {es} {w} run =
       serially = rw same (serially objects (deeds es) (new .objects-few) o);
       same-cards =
           λ late early p.
-          let r = run-early late early run p in
+          let r = run-through late early run p in
           ap (λ (u : World). u .committed) (sym (run-worked (r .1))) ∙ run-agrees a (r .1) .0 .same-committed
           ∙ ap (λ (n : ℕ). serial n (deeds early)) (sym same);
       same-versions =
           λ late early c d v n p.
-          let r = run-early late (record { call = Read c d; answer = Value v n } ∷ early) run p in
+          let r = run-through late (record { call = Read c d; answer = Value v n } ∷ early) run p in
           let l = last-call (r .1) (record { call = Read c d; answer = Value v n }) early refl in
           read-version (run-agrees a (l .1) .0) (case-of (l .2)) c d v n refl refl;
     }

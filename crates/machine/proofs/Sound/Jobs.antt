@@ -1,5 +1,5 @@
--- What the scheduler relies on in a core's list of jobs: the place of the first job of least deadline, and the list without one
--- job. Assumes nothing.
+-- The running job, and what the scheduler relies on in a core's list of jobs: the place of the first job of least deadline, and
+-- the list without one job. Assumes nothing.
 use mathlib.Core.Path.{_≡_, refl, ap, _∙_}
 use mathlib.Core.Bool.{Bool, true, false, cond}
 use mathlib.Core.List.{List, [], _∷_, _++_}
@@ -9,9 +9,20 @@ use lib.Dec.{eqb, ltb}
 use lib.ListN.{getD, length, take, drop, length-append, length-drop, List·getD-append}
 use lib.Seq.{length-take-le, getD-append-add, getD-drop, getD-at}
 use borrow.Author.Tests.{ltb-true, ltb-false, eqb-true, eqb-false}
+use Rattle.machine.specs.declared.Core.{Core}
 use Rattle.machine.specs.declared.Job.{Job}
-use Rattle.machine.specs.Record.{noJob, least}
+use Rattle.machine.specs.Record.{noJob, least, running}
 use Rattle.machine.specs.Rule.{without}
+
+-- while a transaction is in progress, the running job stays: it is the transaction's own
+pub running-stays : (k : Core) → k .active ≡ true → running k ≡ k .owner
+unfolding running
+running-stays k on = ap (λ (b : Bool). cond b (k .owner) (least (k .jobs) (k .count))) on
+
+-- while none is, it is the job of least deadline
+pub running-least : (k : Core) → k .active ≡ false → running k ≡ least (k .jobs) (k .count)
+unfolding running
+running-least k off = ap (λ (b : Bool). cond b (k .owner) (least (k .jobs) (k .count))) off
 
 -- the deadline of the job at place p
 abbrev due : List Job → ℕ → ℕ

@@ -22,7 +22,7 @@ use Rattle.machine.specs.Rule.{World, slot, withJob, withSets, without, 
 use Rattle.machine.proofs.Case.{Case, is-refused, is-released, is-begun, is-told, is-valued, is-written, is-waiting, is-through, is-ended, is-finished}
 use Rattle.machine.proofs.Tally.{tally-within}
 use Rattle.machine.proofs.Sound.Standing.{Tidy, Formed-core, Formed, standing, is-sound}
-use Rattle.machine.proofs.Sound.Jobs.{least-listed}
+use Rattle.machine.proofs.Sound.Jobs.{running-least, least-listed}
 use Rattle.machine.proofs.Sound.Cores.{unmarked, idle-list, idle-tidy, idle-formed, released-tidy, released-formed, told-tidy, told-formed, sets-tidy, sets-formed, finished-tidy, finished-formed, added-within}
 use Rattle.machine.proofs.Entries.{changed-long}
 use Rattle.machine.proofs.Sound.OneCore.{Whole, inside, put-whole, begun-whole, ended-whole}
@@ -96,7 +96,7 @@ module _ (w : World) (c : ℕ) (g : Whole (w .machine)) (here : c < w .machine .
       (finished-tidy (m .objects) k tidy formed (running k) listed) (sym off) (sym (clear .no-ticket)) (sym (clear .no-aborts)))
     where
       listed : running k < k .count
-      listed = unfold running in rw off (least-listed (k .jobs) (k .count) (omega (arith, some)))
+      listed = rw (running-least k off) (least-listed (k .jobs) (k .count) (omega (arith, some)))
 
 pub keeps-good : {w w′ : World} {call : Call} {a : Answer} → Case w call a w′ → Good w → Good w′
 keeps-good {w} is-refused g = g

@@ -49,6 +49,10 @@ allHold next (r ∷ rs) = holds r && (eqb (r .rule) next || eqb (suc (r .rule)) 
 listed : List Job → List Job
 listed jobs = jobs ++ replicate (8 - length jobs) noJob
 
+-- a job of number 0
+unnumbered : ℕ → Job
+unnumbered deadline = record { number = 0; deadline = deadline }
+
 job : ℕ → Job
 job deadline = record { number = 1; deadline = deadline }
 
@@ -93,6 +97,19 @@ machine cores objects tickets commits first versions =
       «give_ups» = 0;
       core = first ++ replicate (16 - length first) blankCore;
       versions = versions ++ replicate (64 - length versions) 0;
+    }
+
+-- one core and one card, nobody in progress, these tickets given and these given up
+givenUp : ℕ → ℕ → Machine
+givenUp tickets given =
+    record {
+      cores = 1;
+      objects = 1;
+      tickets = tickets;
+      commits = 0;
+      «give_ups» = given;
+      core = replicate 16 blankCore;
+      versions = replicate 64 0;
     }
 
 row : ℕ → Machine → Machine → Row
@@ -142,6 +159,7 @@ table =
     -- unused job places hold zeros
     ∷ noTicket 6 (idle (listed (job 90 ∷ [])) 0) (idle (listed (job 90 ∷ [])) 1)
     ∷ noTicket 6 (idle (listed (job 0 ∷ [])) 0) (idle (listed (noJob ∷ [])) 0)
+    ∷ noTicket 6 (idle (listed (unnumbered 90 ∷ [])) 0) (idle (listed (unnumbered 90 ∷ [])) 1)
     -- places for cores that the machine lacks hold zeros
     ∷ row 7 (machine 1 1 0 0 (blankCore ∷ idle (listed (job 90 ∷ [])) 1 ∷ []) [])
     (machine 2 1 0 0 (blankCore ∷ idle (listed (job 90 ∷ [])) 1 ∷ []) [])
@@ -157,6 +175,8 @@ table =
     -- that count is commits + give-ups + transactions in progress
     ∷ row 12 (machine 1 1 1 0 [] []) (machine 1 1 1 1 [] [])
     ∷ row 12 (machine 1 1 0 1 [] []) (machine 1 1 1 1 [] [])
+    ∷ row 12 (givenUp 0 1) (givenUp 1 1)
+    ∷ row 12 (givenUp 2 1) (givenUp 2 2)
     -- no version exceeds the commits
     ∷ row 13 (machine 1 1 0 0 [] (1 ∷ [])) (machine 1 1 1 1 [] (1 ∷ []))
     -- setbacks plus the number of smaller tickets in progress is at most cores - 1
@@ -165,5 +185,5 @@ table =
     ∷ []
 
 pub each-rule-alone : allHold 0 table ≡ true
-unfolding tests allPass onlyFails holds allHold listed job busy left machine row oneCore noTicket fresh second table inRange setsWithin ownerListed idleClear zombieEmpty atMostEight unusedJobs lackedCores lackedObjects ownerFirst ticketsDiffer ticketsGiven ticketsCounted versionsBounded ahead abortsBounded sound tally has each below
+unfolding tests allPass onlyFails holds allHold listed unnumbered job busy left machine givenUp row oneCore noTicket fresh second table inRange setsWithin ownerListed idleClear zombieEmpty atMostEight unusedJobs lackedCores lackedObjects ownerFirst ticketsDiffer ticketsGiven ticketsCounted versionsBounded ahead abortsBounded sound tally has each below
 each-rule-alone = refl

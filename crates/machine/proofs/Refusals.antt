@@ -1,0 +1,181 @@
+-- Refusals: the smallest number that applies is given, and only if its condition holds; a refused call changes nothing, a refused
+-- setup gives the blank record. Assumes nothing.
+use mathlib.Core.Path.{_≡_, refl, sym, ap, ap₂, _∙_}
+use mathlib.Core.Bool.{Bool, true, false, cond, _&&_, _||_, true≢false}
+use mathlib.Core.List.{List, [], _∷_}
+use Prim.Native.Nat.{ℕ, zero, suc, _≤_, _<_}
+use native.Mathlib.Omega.{arith}
+use lib.Dec.{eqb, ltb}
+use borrow.Author.Tests.{ltb-true, eqb-true, eq-eqb}
+use Rattle.objset.proofs.Laws.{both-left, both-right}
+use Rattle.machine.specs.declared.Machine.{Machine}
+use Rattle.machine.specs.declared.Answer.{Answer}
+use Rattle.machine.specs.declared.Answer.the-variants.{Running, Queued}
+use Rattle.machine.specs.declared.Outcome.{Outcome}
+use Rattle.machine.specs.Record.{coreAt, blank, running}
+use Rattle.machine.specs.Answers.{number}
+use Rattle.machine.specs.Rule.{commitRefusal, World, Result, withMachine, first, unless, unlessLent, setup, withJob, released, release, begun, begin, told, accessRefusal, valued, read, written, write, blocked, through, waiting, commit, ended, giveUp, finished, finish, rule, Call, Release, Begin, Read, Write, Commit, GiveUp, Finish}
+use Rattle.machine.specs.Refusals.{refusals, setupRefusals, applies, Smallest}
+
+-- ---- the first condition that holds has the smallest number
+
+-- the numbers rise, from above k
+unfoldable pub rising : ℕ → List (Bool × ℕ) → Bool
+rising k [] = true
+rising k (x ∷ xs) = ltb k (x .1) && rising (x .1) xs
+
+-- a number that applies by the row x, or by later rows with greater numbers
+at-least : (x : Bool × ℕ) (n : ℕ) (later : Bool) → (eqb (x .1) n && x .0 || later) ≡ true → (later ≡ true → x .1 < n) → x .1 ≤ n
+at-least x n later p more = go (eqb (x .1) n && x .0) refl p
+  where
+    go : (b : Bool) → (eqb (x .1) n && x .0) ≡ b → (b || later) ≡ true → x .1 ≤ n
+    go true e q = omega (arith, eqb-true (x .1) n (both-left (eqb (x .1) n) (x .0) e))
+    go false e q = omega (arith, more q)
+
+above : (k n : ℕ) (xs : List (Bool × ℕ)) → rising k xs ≡ true → applies n xs ≡ true → k < n
+unfolding rising applies
+above k n [] up p = absurd (true≢false (sym p))
+above k n (x ∷ xs) up p =
+    omega (
+      arith,
+      ltb-true k (x .1) (both-left (ltb k (x .1)) (rising (x .1) xs) up),
+      at-least x n (applies n xs) p (above (x .1) n xs (both-right (ltb k (x .1)) (rising (x .1) xs) up)),
+    )
+
+and-false : (a : Bool) → (a && false) ≡ false
+and-false true = refl
+and-false false = refl
+
+first-smallest : (k : ℕ) (xs : List (Bool × ℕ)) → rising k xs ≡ true → Smallest (first xs) xs
+unfolding first rising applies
+first-smallest k [] up = record { it-applies = λ l. absurd (omega (arith, l)); none-smaller = λ n p. absurd (true≢false (sym p)) }
+first-smallest k (x ∷ xs) up = go (x .0) refl (first-smallest (x .1) xs later)
+  where
+    later : rising (x .1) xs ≡ true
+    later = both-right (ltb k (x .1)) (rising (x .1) xs) up
+
+    go : (b : Bool) → x .0 ≡ b → Smallest (first xs) xs → Smallest (cond b (x .1) (first xs)) (x ∷ xs)
+    go true e more =
+        record {
+          it-applies = λ l. ap (λ b. b || applies (x .1) xs) (ap₂ _&&_ (eq-eqb (x .1) (x .1) refl) e);
+          none-smaller =
+              λ n p. (
+                omega (arith, ltb-true k (x .1) (both-left (ltb k (x .1)) (rising (x .1) xs) up)),
+                at-least x n (applies n xs) p (above (x .1) n xs later),
+              );
+        }
+    go false e more =
+        let skips : (n : ℕ) → applies n (x ∷ xs) ≡ applies n xs =
+        λ n. ap (λ b. b || applies n xs) (ap (λ b. eqb (x .1) n && b) e ∙ and-false (eqb (x .1) n)) in
+        record {
+          it-applies = λ l. skips (first xs) ∙ more .it-applies l;
+          none-smaller = λ n p. more .none-smaller n (sym (skips n) ∙ p);
+        }
+
+-- no number applies: the first condition does not hold, nor do the others
+pub passed : (b : Bool) (n : ℕ) (xs : List (Bool × ℕ)) → first ((b, suc n) ∷ xs) ≡ 0 → (b ≡ false) × (first xs ≡ 0)
+unfolding first
+passed true n xs e = absurd (omega arith)
+passed false n xs e = (refl, e)
+
+-- ---- read, write and commit test in the order of document 01's numbers
+
+access-in-order : (w : World) (c d : ℕ) → accessRefusal w c d ≡ first (refusals w (Read c d))
+unfolding accessRefusal refusals first
+access-in-order w c d = refl
+
+commit-in-order : (w : World) (c : ℕ) → commitRefusal w c ≡ first (refusals w (Commit c))
+unfolding commitRefusal refusals first
+commit-in-order w c = refl
+
+-- ---- an accepted call gives no number
+
+-- an answer that is no refusal
+abbrev Accepted : Answer → Type 0
+Accepted a = number a ≡ 0
+
+accepted-release : (m : Machine) (c n deadline : ℕ) → Accepted (released m c (record { number = n; deadline = deadline }) .answer)
+unfolding released number
+accepted-release m c n deadline = go (eqb (running (withJob (coreAt m c) (record { number = n; deadline = deadline }))) (coreAt m c .count))
+  where
+    go : (b : Bool) → Accepted (cond b Running Queued)
+    go true = refl
+    go false = refl
+
+accepted-access : (z : Bool) (w : World) (c : ℕ) (x : Result) → Accepted (x .answer) → Accepted (cond z (told w c) x .answer)
+unfolding told number
+accepted-access true w c x h = refl
+accepted-access false w c x h = h
+
+accepted-commit : (b : Bool) (e : ℕ) (w : World) (c : ℕ) → Accepted (cond b (waiting w e) (through w c) .answer)
+unfolding through number
+accepted-commit true e w c = refl
+accepted-commit false e w c = refl
+
+-- ---- the number given, and what a refused call leaves
+
+-- the number is r; a refusal leaves what was there
+unless-refuses : (r : ℕ) (m : Machine) (o : Outcome) → Accepted (o .answer)
+    → (number (unless r m o .answer) ≡ r) × ((n : ℕ) → number (unless r m o .answer) ≡ suc n → unless r m o .machine ≡ m)
+unfolding unless number
+unless-refuses zero m o h = (h, λ n p. absurd (omega (arith, h, p)))
+unless-refuses (suc r) m o h = (refl, λ n p. refl)
+
+lent-refuses : (r : ℕ) (w : World) (x : Result) → Accepted (x .answer)
+    → (number (unlessLent r w x .answer) ≡ r) × ((n : ℕ) → number (unlessLent r w x .answer) ≡ suc n → unlessLent r w x .world ≡ w)
+unfolding unlessLent number
+lent-refuses zero w x h = (h, λ n p. absurd (omega (arith, h, p)))
+lent-refuses (suc r) w x h = (refl, λ n p. refl)
+
+-- the number is that of the first condition in document 01's table that holds; a refused call leaves the world as it was
+refuses : (e : ℕ) (w : World) (call : Call)
+    → (number (rule e w call .answer) ≡ first (refusals w call))
+    × ((n : ℕ) → number (rule e w call .answer) ≡ suc n → rule e w call .world ≡ w)
+unfolding rule refusals first release begin read write commit giveUp finish
+refuses e w (Release c n deadline) =
+    let r = unless-refuses _ (w .machine) _ (accepted-release (w .machine) c n deadline) in (r .0, λ k p. ap (withMachine w) (r .1 k p))
+refuses e w (Begin c) =
+    let r = unless-refuses _ (w .machine) (begun (w .machine) c) (unfold begun number in refl) in (r .0, λ k p. ap (withMachine w) (r .1 k p))
+refuses e w (Read c d) =
+    let r = lent-refuses (accessRefusal w c d) w _ (accepted-access (coreAt (w .machine) c .zombie) w c (valued w c d) (unfold valued number in refl)) in
+    (r .0 ∙ access-in-order w c d, r .1)
+refuses e w (Write c d v) =
+    let r = lent-refuses (accessRefusal w c d) w _ (accepted-access (coreAt (w .machine) c .zombie) w c (written w c d v) (unfold written number in refl)) in
+    (r .0 ∙ access-in-order w c d, r .1)
+refuses e w (Commit c) =
+    let r = lent-refuses (commitRefusal w c) w _ (accepted-access (coreAt (w .machine) c .zombie) w c _ (accepted-commit (blocked (w .machine) c) e w c)) in
+    (r .0 ∙ commit-in-order w c, r .1)
+refuses e w (GiveUp c) =
+    let r = unless-refuses _ (w .machine) (ended (w .machine) c) (unfold ended number in refl) in (r .0, λ k p. ap (withMachine w) (r .1 k p))
+refuses e w (Finish c) =
+    let r = unless-refuses _ (w .machine) (finished (w .machine) c) (unfold finished number in refl) in (r .0, λ k p. ap (withMachine w) (r .1 k p))
+
+-- the same of setup, which leaves the blank record and the tables as lent
+setup-refuses : (cores objects : ℕ) (committed pending : List ℕ)
+    → (number (setup cores objects committed pending .answer) ≡ first (setupRefusals cores objects committed pending))
+    × ((n : ℕ) → number (setup cores objects committed pending .answer) ≡ suc n
+    → setup cores objects committed pending .world ≡ record { machine = blank; committed = committed; pending = pending })
+unfolding setup setupRefusals
+setup-refuses cores objects committed pending = lent-refuses _ _ _ (unfold number in refl)
+
+-- ---- for callers
+
+-- the smallest number that applies is given, and only if its condition holds
+pub smallest-given : (e : ℕ) (w : World) (call : Call) → Smallest (number (rule e w call .answer)) (refusals w call)
+smallest-given e w call = rw (refuses e w call .0) (first-smallest 0 (refusals w call) (unfold refusals rising in refl))
+
+pub setup-smallest-given : (cores objects : ℕ) (committed pending : List ℕ)
+    → Smallest (number (setup cores objects committed pending .answer)) (setupRefusals cores objects committed pending)
+setup-smallest-given cores objects committed pending =
+    rw (setup-refuses cores objects committed pending .0)
+    (first-smallest 0 (setupRefusals cores objects committed pending) (unfold setupRefusals rising in refl))
+
+-- a refused call gives back the record it took, and lent tables keep every word
+pub refused-unchanged : (e : ℕ) (w : World) (call : Call) (n : ℕ) → number (rule e w call .answer) ≡ suc n → rule e w call .world ≡ w
+refused-unchanged e w call = refuses e w call .1
+
+-- a refused setup gives the blank record and keeps the tables as lent
+pub setup-refused-blank : (cores objects : ℕ) (committed pending : List ℕ) (n : ℕ)
+    → number (setup cores objects committed pending .answer) ≡ suc n
+    → setup cores objects committed pending .world ≡ record { machine = blank; committed = committed; pending = pending }
+setup-refused-blank cores objects committed pending = setup-refuses cores objects committed pending .1
