@@ -3,12 +3,13 @@ use mathlib.Core.Path.{_≡_, refl, sym, ap, ap₂, _∙_}
 use mathlib.Core.Bool.{Bool, true, false, cond, not, _&&_}
 use mathlib.Core.List.{List, [], _∷_}
 use Prim.Native.Nat.{ℕ, suc, _*_, _≤_}
+use native.Mathlib.Omega.{arith}
 use lib.Dec.{eqb, ltb, leb}
 use lib.ListN.{length, replicate}
 use borrow.Author.Tests.{leb-true, eqb-true}
 use Rattle.objset.proofs.Laws.{both-left, both-right}
 use Rattle.machine.specs.declared.Machine.{Machine}
-use Rattle.machine.specs.declared.Answer.the-variants.{Refused, Ready}
+use Rattle.machine.specs.declared.Answer.the-variants.{Refused, Ready, Waits}
 use Rattle.machine.specs.Record.{blank, machineOf}
 use Rattle.machine.specs.Sound.{sound}
 use Rattle.machine.specs.Inside.{Fine}
@@ -51,6 +52,9 @@ module _ (w : World) (c : ℕ) (s : sound (w .machine) ≡ false) where
   pub commit-unsound : (e : ℕ) → record { answer = Refused 2; world = w } ≡ commit e w c
   unfolding commit commitRefusal
   commit-unsound e = refused-lent w _ 1 _ (hits _ _ _ (ap not s))
+
+pub refused-not-waits : (n e : ℕ) → Refused n ≡ Waits e → ⊥
+refused-not-waits n e p = let z : _≡_ {A = ℕ} 0 1 = cc in omega arith
 
 -- ---- 3: a table of another length
 

@@ -75,3 +75,7 @@ pub record Claim (w₀ : World) (es : List Event) (w : World) : Type 0 where
   -- the version that a read gives is the count of commits that wrote the card
   pub same-versions : (late early : List Event) (c d v n : ℕ) → es ≡ late ++ record { call = Read c d; answer = Value v n } ∷ early
       → n ≡ version (deeds early) d
+
+-- the claim holds of every list of calls after w₀
+pub record EveryRun (w₀ : World) : Type 0 where
+  pub claimed : (es : List Event) (w : World) → Run w₀ es w → Claim w₀ es w

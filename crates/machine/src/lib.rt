@@ -2,19 +2,23 @@
 // calls, what a call hands back, and the eight calls. Each promise is an equation with the rule (specs/Rule.antt) for the answer,
 // the whole record and every word of both tables, for every record, sound or not, and every table length. Assumes nothing.
 use crate::inside::access;
+use crate::inside::commit;
+use crate::inside::jobs;
 use crate::inside::transaction;
 use crate::setup::clear;
 use crate::setup::fresh;
 use crate::soundness::is_sound;
 ghost use mathlib.Core.Path.{_≡_};
-ghost use mathlib.Core.Bool.{_&&_};
-ghost use Prim.Native.Nat.{_*_};
+ghost use mathlib.Core.Bool.{true, _&&_};
+ghost use Prim.Native.Nat.{ℕ, _*_};
 ghost use lib.Dec.{eqb, ltb, leb};
 ghost use Rattle.machine.specs.Sound.{sound};
 ghost use Rattle.machine.specs.Rule as Rule;
 ghost use Rattle.machine.specs.Rule.{lent, left};
 ghost use Rattle.machine.specs.Record.{blank};
-ghost use Rattle.machine.specs.declared.Answer.the-variants.{Refused};
+ghost use Rattle.machine.specs.declared.Answer.the-variants.{Ready, Refused, Waits};
+ghost use Rattle.machine.specs.Claims.{EveryRun};
+ghost use Rattle.machine.specs.Answers.{named};
 
 pub mod inside;
 mod setup;
@@ -129,9 +133,11 @@ impl Machine {
     }
 
     // A new machine, both tables zero. Refused, the tables keep every word and the record is blank: 1 cores not 1 to 16 or cards
-    // not 1 to 64, 3 either table's length is wrong.
+    // not 1 to 64, 3 either table's length is wrong. Accepted, the claim about whole runs holds of every list of the other seven
+    // calls that follows (specs/Claims.antt).
     pub fn setup(cores: u32, cards: u32, committed: &mut [u32], pending: &mut [u32]) -> Outcome
-        ensures { λ r. ⌜ left r (now (committed .exit)) (now (pending .exit)) ≡ Rule.setup cores cards (now (committed .entry)) (now (pending .entry)) ⌝ }
+        ensures rule { λ r. ⌜ left r (now (committed .exit)) (now (pending .exit)) ≡ Rule.setup cores cards (now (committed .entry)) (now (pending .entry)) ⌝ }
+        ensures runs { λ r. ⌜ (r .answer ≡ Ready → EveryRun (lent (r .machine) (now (committed .exit)) (now (pending .exit)))) ⌝ }
     {
         if in_range(cores, cards) {
             let n = cores as u8;
@@ -145,6 +151,18 @@ impl Machine {
             }
         } else {
             refused_setup(1)
+        }
+    }
+
+    // The job joins the end of the core's list; running, if it is the running job now, or queued. 2 unsound record, 4 no such core,
+    // 6 the core has 8 jobs. Refused, the record comes back as given.
+    pub fn release(self, core: u32, job: u16, deadline: u32) -> Outcome
+        ensures { λ r. ⌜ r ≡ Rule.release self core job deadline ⌝ }
+    {
+        if is_sound(self) {
+            jobs::release(self, core, job, deadline)
+        } else {
+            Outcome { answer: Answer::Refused(2), machine: self }
         }
     }
 
@@ -194,6 +212,24 @@ impl Machine {
         }
     }
 
+    // The transaction commits, with the count of setbacks, or waits for one ahead of it, or is told that it was set back. 2 unsound
+    // record, 3 wrong table, 4 no such core, 9 none in progress. The pending table keeps every word; so does the committed one
+    // where the transaction does not commit; refused, the record comes back as given.
+    pub fn commit(self, core: u32, committed: &mut [u32], pending: &mut [u32]) -> Outcome
+        ensures rule { λ r. ⌜ left r (now (committed .exit)) (now (pending .exit)) ≡ Rule.commit (named (r .answer)) (lent self (now (committed .entry)) (now (pending .entry))) core ⌝ }
+        ensures waits { λ r. ⌜ ((e : ℕ) → r .answer ≡ Waits e → Rule.contender self core e ≡ true) ⌝ }
+    {
+        if is_sound(self) {
+            if tables_fit(self.cores, self.objects, committed.len(), pending.len()) {
+                commit::commit(self, core, committed, pending)
+            } else {
+                Outcome { answer: Answer::Refused(3), machine: self }
+            }
+        } else {
+            Outcome { answer: Answer::Refused(2), machine: self }
+        }
+    }
+
     // The transaction ends without effect: 2 unsound record, 4 no such core, 9 none in progress. Refused, the record comes back as
     // given.
     pub fn give_up(self, core: u32) -> Outcome
@@ -201,6 +237,18 @@ impl Machine {
     {
         if is_sound(self) {
             transaction::give_up(self, core)
+        } else {
+            Outcome { answer: Answer::Refused(2), machine: self }
+        }
+    }
+
+    // The running job leaves the list, the others keep their order; its number is the answer. 2 unsound record, 4 no such core, 7
+    // the core has no job, 8 a transaction is in progress. Refused, the record comes back as given.
+    pub fn finish(self, core: u32) -> Outcome
+        ensures { λ r. ⌜ r ≡ Rule.finish self core ⌝ }
+    {
+        if is_sound(self) {
+            jobs::finish(self, core)
         } else {
             Outcome { answer: Answer::Refused(2), machine: self }
         }

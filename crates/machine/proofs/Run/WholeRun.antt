@@ -5,17 +5,18 @@ use mathlib.Core.List.{List, [], _∷_, _++_}
 use Prim.Native.Nat.{ℕ, zero, suc}
 use native.Mathlib.Omega.{arith}
 use lib.ListN.{getD}
+use Rattle.machine.specs.declared.Outcome.{Outcome}
 use Rattle.machine.specs.declared.Answer.{Answer}
 use Rattle.machine.specs.declared.Answer.the-variants.{Ready, Value}
 use Rattle.machine.specs.Answers.{named}
 use Rattle.machine.specs.Record.{coreAt}
 use Rattle.machine.specs.Rule as Rule
-use Rattle.machine.specs.Rule.{World, Call, Release, Begin, Read, Write, Commit, GiveUp, Finish, rule}
+use Rattle.machine.specs.Rule.{World, lent, left, Call, Release, Begin, Read, Write, Commit, GiveUp, Finish, rule}
 use Rattle.machine.specs.Follows.{Follows}
 use Rattle.machine.proofs.Case.{Case, is-refused, is-released, is-begun, is-told, is-valued, is-written, is-waiting, is-through, is-ended, is-finished, case-of}
 use Rattle.machine.specs.Words.{Event, Deed, deeds}
 use Rattle.machine.specs.Serial.{serial, version}
-use Rattle.machine.specs.Claims.{Run, fresh, then, worked, ByTheRule, Claim}
+use Rattle.machine.specs.Claims.{Run, fresh, then, worked, ByTheRule, Claim, EveryRun}
 use Rattle.machine.proofs.Run.Served.{served}
 use Rattle.machine.proofs.Run.Serially.{serially}
 use Rattle.machine.proofs.Run.Agreement.{Agree}
@@ -124,3 +125,12 @@ whole-run cores objects committed pending ready {es} {w} run =
           let l = last-call (r .1) (record { call = Read c d; answer = Value v n }) early refl in
           read-version (run-agrees a (l .1) .0) (case-of (l .2)) c d v n refl refl;
     }
+
+-- what setup hands back, with the tables as it left them: every list of calls that follows keeps the claim
+pub every-run : (cores objects : ℕ) (committed pending : List ℕ) (r : Outcome) (cs ps : List ℕ)
+    → left r cs ps ≡ Rule.setup cores objects committed pending → r .answer ≡ Ready → EveryRun (lent (r .machine) cs ps)
+every-run cores objects committed pending r cs ps e ready =
+    subst EveryRun (sym (ap (λ (x : Rule.Result). x .world) e))
+    (record {
+      claimed = λ es w run. whole-run cores objects committed pending (sym (ap (λ (x : Rule.Result). x .answer) e) ∙ ready) run
+    })

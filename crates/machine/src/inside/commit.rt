@@ -12,7 +12,8 @@ ghost use Rattle.objset.specs.Objset.{has};
 ghost use Rattle.machine.specs.Record.{noCore, coreAt};
 ghost use Rattle.machine.specs.Sound.{sound};
 ghost use Rattle.machine.specs.Answers.{named};
-ghost use Rattle.machine.specs.Rule.{conflict, contender, blocked, unmarked, struck, over, cleared, changed, through};
+ghost use Rattle.machine.specs.Inside.{Fine};
+ghost use Rattle.machine.specs.Rule.{lent, left, conflict, contender, blocked, unmarked, struck, over, cleared, changed, through};
 ghost use Rattle.machine.specs.Rule.{commit as commitRule};
 
 // Who holds a transaction back: the core of a conflicting transaction with a smaller ticket, or nobody.
@@ -211,15 +212,8 @@ fn carry_through(m: Machine, c: usize, committed: &mut [u32], pending: &[u32]) -
 // transaction is told that it was set back, and loses its mark; one that conflicts with a smaller ticket waits; any other
 // commits.
 pub fn commit(m: Machine, core: u32, committed: &mut [u32], pending: &mut [u32]) -> Outcome
-    requires { ⌜ sound m ≡ true ⌝ }
-    requires { ⌜ length (now committed) ≡ m .objects ⌝ }
-    requires { ⌜ length (now pending) ≡ m .cores * m .objects ⌝ }
-    ensures rule {
-        λ r. ⌜ record {
-          answer = r .answer;
-          world = record { machine = r .machine; committed = now (committed .exit); pending = now (pending .exit) };
-        } ≡ commitRule (named (r .answer)) (record { machine = m; committed = now (committed .entry); pending = now (pending .entry) }) core ⌝
-    }
+    requires { ⌜ Fine (lent m (now committed) (now pending)) ⌝ }
+    ensures rule { λ r. ⌜ left r (now (committed .exit)) (now (pending .exit)) ≡ commitRule (named (r .answer)) (lent m (now (committed .entry)) (now (pending .entry))) core ⌝ }
     ensures waits { λ r. ⌜ ((e : ℕ) → r .answer ≡ Answer.Waits e → contender m core e ≡ true) ⌝ }
 {
     if m.cores as u32 <= core {

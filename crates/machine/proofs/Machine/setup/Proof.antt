@@ -1,10 +1,22 @@
 -- `machine::Machine::setup` meets its contract. Assumes nothing.
 use mathlib.Core.Path.{_≡_, sym, _∙_}
+use mathlib.Core.List.{List}
+use Prim.Native.Nat.{ℕ}
 use native.Mathlib.Omega.{arith}
 use borrow.Author.Needs.{needs}
+use Rattle.machine.specs.declared.Outcome.{Outcome}
+use Rattle.machine.specs.declared.Answer.the-variants.{Ready}
+use Rattle.machine.specs.Rule.{lent, left, setup}
+use Rattle.machine.specs.Claims.{EveryRun}
+use Rattle.machine.proofs.Run.WholeRun.{every-run}
 use Rattle.machine.proofs.DoorLaws.{few-of, setup-range, setup-misfit, setup-made}
 use Rattle.machine.proofs.Machine.setup.Statement.{statement}
 use Rattle.machine.proofs.Machine.setup.Tie as tie
+
+-- the rule's equation gives the claim about every run that follows
+kept : (cores objects : ℕ) (committed pending : List ℕ) (r : Outcome) (cs ps : List ℕ) → left r cs ps ≡ setup cores objects committed pending
+    → (left r cs ps ≡ setup cores objects committed pending) × (r .answer ≡ Ready → EveryRun (lent (r .machine) cs ps))
+kept cores objects committed pending r cs ps e = (e, every-run cores objects committed pending r cs ps e)
 
 in-range-requires : tie.Need-in-range-requires
 in-range-requires c κs = search needs
@@ -50,21 +62,24 @@ returns c =
     let then2 = clear .before .before in
     let fit = then2 .before in
     let then1 = fit .before in
-    rw (c .fresh .ensures, clear .clear .ensures, clear2 .clear2 .ensures)
-    (setup-made _ _ _ _ (sym (then1 .before .in-range .ensures) ∙ then1 .if1 .taken) (sym (fit .tables-fit .ensures) ∙ then2 .if2 .taken))
+    kept _ _ _ _ _ _ _
+    (rw (c .fresh .ensures, clear .clear .ensures, clear2 .clear2 .ensures)
+    (setup-made _ _ _ _ (sym (then1 .before .in-range .ensures) ∙ then1 .if1 .taken) (sym (fit .tables-fit .ensures) ∙ then2 .if2 .taken)))
 
 returns-2 : tie.Need-returns-2
 returns-2 c =
     let else2 = c .before in
     let fit = else2 .before in
     let then1 = fit .before in
-    rw (c .refused-setup .ensures)
-    (setup-misfit _ _ _ _ (sym (then1 .before .in-range .ensures) ∙ then1 .if1 .taken) (sym (fit .tables-fit .ensures) ∙ else2 .if2 .left))
+    kept _ _ _ _ _ _ _
+    (rw (c .refused-setup .ensures)
+    (setup-misfit _ _ _ _ (sym (then1 .before .in-range .ensures) ∙ then1 .if1 .taken) (sym (fit .tables-fit .ensures) ∙ else2 .if2 .left)))
 
 returns-3 : tie.Need-returns-3
 returns-3 c =
     let else1 = c .before in
-    rw (c .refused-setup2 .ensures) (setup-range _ _ _ _ (sym (else1 .before .in-range .ensures) ∙ else1 .if1 .left))
+    kept _ _ _ _ _ _ _
+    (rw (c .refused-setup2 .ensures) (setup-range _ _ _ _ (sym (else1 .before .in-range .ensures) ∙ else1 .if1 .left)))
 
 pub setup-spec : {M : Type 1} → statement M
 setup-spec =

@@ -15,7 +15,7 @@ returns : tie.Need-returns
 returns c = 
     let start = c .before .before .before in
     (
-      commit-no-core _ _ (start .pre .0) (start .pre .1 .0) (start .pre .1 .1) _ (c .if1 .taken),
+      commit-no-core _ _ (start .pre .is-sound) (start .pre .committed-long) (start .pre .pending-long) _ (c .if1 .taken),
       λ e p. cc,
     )
 
@@ -23,7 +23,7 @@ mul-k : tie.Need-mul-k
 mul-k c = search needs
 
 element-copy-out-k : tie.Need-element-copy-out-k
-element-copy-out-k c = core-place _ (c .before .before .before .pre .0) _ (c .if1 .left)
+element-copy-out-k c = core-place _ (c .before .before .before .pre .is-sound) _ (c .if1 .left)
 
 without-mark-requires : tie.Need-without-mark-requires
 without-mark-requires c κs = search needs
@@ -32,7 +32,7 @@ mul-t23 : tie.Need-mul-t23
 mul-t23 c = search needs
 
 element-set-from-n : tie.Need-element-set-from-n
-element-set-from-n c = core-place _ (c .before .before .before .before .before .before .before .pre .0) _ (c .before .before .before .before .if1 .left)
+element-set-from-n c = core-place _ (c .before .before .before .before .before .before .before .pre .is-sound) _ (c .before .before .before .before .if1 .left)
 
 returns-2 : tie.Need-returns-2
 unfolding told
@@ -40,13 +40,13 @@ returns-2 c =
     let start = c .before .before .before .before .before .before .before in
     (
       rw (c .without-mark .ensures)
-      (commit-told _ _ (start .pre .0) (start .pre .1 .0) (start .pre .1 .1) (c .before .before .before .before .if1 .left) (c .before .before .if2 .taken) _
+      (commit-told _ _ (start .pre .is-sound) (start .pre .committed-long) (start .pre .pending-long) (c .before .before .before .before .if1 .left) (c .before .before .if2 .taken) _
       (c .before .if3 .taken)),
       λ e p. cc,
     )
 
 contender-of-requires : tie.Need-contender-of-requires
-contender-of-requires c κs = (c .before .before .before .before .before .before .pre .0, core-place _ (c .before .before .before .before .before .before .pre .0) _ (c .before .before .before .if1 .left))
+contender-of-requires c κs = (c .before .before .before .before .before .before .pre .is-sound, core-place _ (c .before .before .before .before .before .before .pre .is-sound) _ (c .before .before .before .if1 .left))
 
 enum-known-e : tie.Need-enum-known-e
 enum-known-e c = search needs
@@ -57,7 +57,7 @@ enum-told c = search needs
 carry-through-requires : tie.Need-carry-through-requires
 carry-through-requires c κs = 
     let start = c .before .before .before .before .before .before .before .before .before .before .before in
-    (start .pre .0, (c .before .before .before .before .before .before .before .before .if1 .left, (c .before .before .before .before .before .before .if2 .taken, (start .pre .1 .0, start .pre .1 .1))))
+    (start .pre .is-sound, (c .before .before .before .before .before .before .before .before .if1 .left, (c .before .before .before .before .before .before .if2 .taken, (start .pre .committed-long, start .pre .pending-long))))
 
 returns-3 : tie.Need-returns-3
 unfolding named
@@ -66,9 +66,9 @@ returns-3 c =
     let e = c .before .e .given .0 .0 in
     let held = c .before .before .before .contender-of .ensures .0 e (c .before .e .given .1) in
     (
-      commit-waits _ _ (start .pre .0) (start .pre .1 .0) (start .pre .1 .1) (c .before .before .before .before .before .before .before .if1 .left)
+      commit-waits _ _ (start .pre .is-sound) (start .pre .committed-long) (start .pre .pending-long) (c .before .before .before .before .before .before .before .if1 .left)
       (c .before .before .before .before .before .if2 .taken) (c .before .before .before .before .if3 .left) e
-      (someone-ahead (start .args .t1) (start .pre .0) (start .args .core) e (held .0) (held .1)),
+      (someone-ahead (start .args .t1) (start .pre .is-sound) (start .args .core) e (held .0) (held .1)),
       λ f p. cc (held .1),
     )
 
@@ -84,7 +84,7 @@ returns-4 c =
     let nobody = c .before .before .before .before .before .before .before .contender-of .ensures .1 (c .before .before .before .before .before .enum-told .given .1) in
     (
       c .before .before .carry-through .ensures
-      ∙ commit-through _ _ (start .pre .0) (start .pre .1 .0) (start .pre .1 .1) (c .before .before .before .before .before .before .before .before .before .before .before .if1 .left) (c .before .before .before .before .before .before .before .before .before .if2 .taken) (c .before .before .before .before .before .before .before .before .if3 .left) _ nobody,
+      ∙ commit-through _ _ (start .pre .is-sound) (start .pre .committed-long) (start .pre .pending-long) (c .before .before .before .before .before .before .before .before .before .before .before .if1 .left) (c .before .before .before .before .before .before .before .before .before .if2 .taken) (c .before .before .before .before .before .before .before .before .if3 .left) _ nobody,
       λ e p. absurd (through-never-waits _ _ _ (c .before .before .carry-through .ensures) e p),
     )
 
@@ -92,7 +92,7 @@ returns-5 : tie.Need-returns-5
 returns-5 c = 
     let start = c .before .before .before .before .before in
     (
-      commit-none _ _ (start .pre .0) (start .pre .1 .0) (start .pre .1 .1) (c .before .before .if1 .left) _ (c .if2 .left),
+      commit-none _ _ (start .pre .is-sound) (start .pre .committed-long) (start .pre .pending-long) (c .before .before .if1 .left) _ (c .if2 .left),
       λ e p. cc,
     )
 
