@@ -22,7 +22,7 @@ no-waits true e p = let z : _≡_ {A = ℕ} 0 1 = cc in omega arith
 no-waits false e p = let z : _≡_ {A = ℕ} 0 1 = cc in omega arith
 
 -- only a commit behind a contender is answered waits
-waits-only : {w w′ : World} {call : Call} {a : Answer} → Case w call a w′ → (e : ℕ) → a ≡ Waits e → contender (w .machine) (coreOf call) e ≡ true
+pub waits-only : {w w′ : World} {call : Call} {a : Answer} → Case w call a w′ → (e : ℕ) → a ≡ Waits e → contender (w .machine) (coreOf call) e ≡ true
 unfolding released finished valued through
 waits-only is-refused e p = let z : _≡_ {A = ℕ} 0 1 = cc in absurd (omega arith)
 waits-only {w = w} (is-released {c = c} {number = n} {deadline = d} ok room) e p =

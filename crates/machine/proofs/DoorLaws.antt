@@ -67,7 +67,7 @@ fine-of w s t =
     record {
       is-sound = s;
       committed-long = eqb-true _ _ (both-left _ (eqb (length (w .pending)) (w .machine .cores * w .machine .objects)) t);
-      pending-long = eqb-true _ _ (both-right (eqb (length (w .committed)) (w .machine .objects)) _ t)
+      pending-long = eqb-true _ _ (both-right (eqb (length (w .committed)) (w .machine .objects)) _ t);
     }
 
 module _ (w : World) (c : ℕ) (s : sound (w .machine) ≡ true) (t : fitting w ≡ false) where
@@ -114,7 +114,7 @@ module _ (cores objects : ℕ) (committed pending : List ℕ) where
     -- the tables, cleared, have their lengths
     pub setup-made : (eqb (length committed) objects && eqb (length pending) (cores * objects)) ≡ true
         → record { answer = Ready; world = lent (machineOf cores objects) (replicate (length committed) 0) (replicate (length pending) 0) }
-          ≡ setup cores objects committed pending
+        ≡ setup cores objects committed pending
     unfolding setup
     setup-made t =
         ap₂ (λ (a b : ℕ). record { answer = Ready; world = lent (machineOf cores objects) (replicate a 0) (replicate b 0) })

@@ -13,5 +13,6 @@ mod SoundLaws
 pub mod Refusals
 pub mod Case
 pub mod CanFollow
+pub mod Binds
 pub mod Sound
 pub mod Run

@@ -121,7 +121,10 @@ fn tables_fit(cores: u8, objects: u8, committed: usize, pending: usize) -> bool
 fn refused_setup(number: u8) -> Outcome
     ensures { λ r. ⌜ r ≡ record { answer = Refused number; machine = blank } ⌝ }
 {
-    Outcome { answer: Answer::Refused(number), machine: fresh(0, 0) }
+    Outcome {
+        answer: Answer::Refused(number),
+        machine: fresh(0, 0),
+    }
 }
 
 impl Machine {
@@ -145,7 +148,10 @@ impl Machine {
             if tables_fit(n, d, committed.len(), pending.len()) {
                 clear(committed);
                 clear(pending);
-                Outcome { answer: Answer::Ready, machine: fresh(n, d) }
+                Outcome {
+                    answer: Answer::Ready,
+                    machine: fresh(n, d),
+                }
             } else {
                 refused_setup(3)
             }
@@ -162,7 +168,10 @@ impl Machine {
         if is_sound(self) {
             jobs::release(self, core, job, deadline)
         } else {
-            Outcome { answer: Answer::Refused(2), machine: self }
+            Outcome {
+                answer: Answer::Refused(2),
+                machine: self,
+            }
         }
     }
 
@@ -174,7 +183,10 @@ impl Machine {
         if is_sound(self) {
             transaction::begin(self, core)
         } else {
-            Outcome { answer: Answer::Refused(2), machine: self }
+            Outcome {
+                answer: Answer::Refused(2),
+                machine: self,
+            }
         }
     }
 
@@ -188,27 +200,46 @@ impl Machine {
             if tables_fit(self.cores, self.objects, committed.len(), pending.len()) {
                 access::read(self, core, card, committed, pending)
             } else {
-                Outcome { answer: Answer::Refused(3), machine: self }
+                Outcome {
+                    answer: Answer::Refused(3),
+                    machine: self,
+                }
             }
         } else {
-            Outcome { answer: Answer::Refused(2), machine: self }
+            Outcome {
+                answer: Answer::Refused(2),
+                machine: self,
+            }
         }
     }
 
     // Stores the pending word; the card joins the write set. A marked transaction is told that it was set back instead. 2 unsound
     // record, 3 wrong table, 4 no such core, 5 no such card, 9 none in progress. No other word changes; refused, none does and the
     // record comes back as given.
-    pub fn write(self, core: u32, card: u32, value: u32, committed: &mut [u32], pending: &mut [u32]) -> Outcome
+    pub fn write(
+        self,
+        core: u32,
+        card: u32,
+        value: u32,
+        committed: &mut [u32],
+        pending: &mut [u32],
+    ) -> Outcome
         ensures { λ r. ⌜ left r (now (committed .exit)) (now (pending .exit)) ≡ Rule.write (lent self (now (committed .entry)) (now (pending .entry))) core card value ⌝ }
     {
         if is_sound(self) {
             if tables_fit(self.cores, self.objects, committed.len(), pending.len()) {
                 access::write(self, core, card, value, committed, pending)
             } else {
-                Outcome { answer: Answer::Refused(3), machine: self }
+                Outcome {
+                    answer: Answer::Refused(3),
+                    machine: self,
+                }
             }
         } else {
-            Outcome { answer: Answer::Refused(2), machine: self }
+            Outcome {
+                answer: Answer::Refused(2),
+                machine: self,
+            }
         }
     }
 
@@ -223,10 +254,16 @@ impl Machine {
             if tables_fit(self.cores, self.objects, committed.len(), pending.len()) {
                 commit::commit(self, core, committed, pending)
             } else {
-                Outcome { answer: Answer::Refused(3), machine: self }
+                Outcome {
+                    answer: Answer::Refused(3),
+                    machine: self,
+                }
             }
         } else {
-            Outcome { answer: Answer::Refused(2), machine: self }
+            Outcome {
+                answer: Answer::Refused(2),
+                machine: self,
+            }
         }
     }
 
@@ -238,7 +275,10 @@ impl Machine {
         if is_sound(self) {
             transaction::give_up(self, core)
         } else {
-            Outcome { answer: Answer::Refused(2), machine: self }
+            Outcome {
+                answer: Answer::Refused(2),
+                machine: self,
+            }
         }
     }
 
@@ -250,7 +290,10 @@ impl Machine {
         if is_sound(self) {
             jobs::finish(self, core)
         } else {
-            Outcome { answer: Answer::Refused(2), machine: self }
+            Outcome {
+                answer: Answer::Refused(2),
+                machine: self,
+            }
         }
     }
 }

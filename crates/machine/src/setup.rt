@@ -10,7 +10,10 @@ ghost use Rattle.machine.specs.Record.{machineOf};
 pub fn fresh(cores: u8, objects: u8) -> Machine
     ensures { λ r. ⌜ r ≡ machineOf cores objects ⌝ }
 {
-    let none = Job { number: 0, deadline: 0 };
+    let none = Job {
+        number: 0,
+        deadline: 0,
+    };
     let idle = Core {
         jobs: [none; 8],
         count: 0,

@@ -132,5 +132,5 @@ pub every-run : (cores objects : ℕ) (committed pending : List ℕ) (r : Outcom
 every-run cores objects committed pending r cs ps e ready =
     subst EveryRun (sym (ap (λ (x : Rule.Result). x .world) e))
     (record {
-      claimed = λ es w run. whole-run cores objects committed pending (sym (ap (λ (x : Rule.Result). x .answer) e) ∙ ready) run
+      claimed = λ es w run. whole-run cores objects committed pending (sym (ap (λ (x : Rule.Result). x .answer) e) ∙ ready) run;
     })

@@ -18,7 +18,10 @@ pub fn tell(m: Machine, c: usize) -> Outcome
     k.zombie = false;
     let mut n = m;
     n.core[c] = k;
-    Outcome { answer: Answer::SetBack, machine: n }
+    Outcome {
+        answer: Answer::SetBack,
+        machine: n,
+    }
 }
 
 // The place of the pending word for core c and card d.
@@ -36,10 +39,16 @@ pub fn read(m: Machine, core: u32, card: u32, committed: &[u32], pending: &[u32]
     ensures { λ r. ⌜ left r (now (committed .entry)) (now (pending .entry)) ≡ readRule (lent m (now (committed .entry)) (now (pending .entry))) core card ⌝ }
 {
     if m.cores as u32 <= core {
-        return Outcome { answer: Answer::Refused(4), machine: m };
+        return Outcome {
+            answer: Answer::Refused(4),
+            machine: m,
+        };
     }
     if m.objects as u32 <= card {
-        return Outcome { answer: Answer::Refused(5), machine: m };
+        return Outcome {
+            answer: Answer::Refused(5),
+            machine: m,
+        };
     }
     let c = core as usize;
     let d = card as usize;
@@ -54,26 +63,48 @@ pub fn read(m: Machine, core: u32, card: u32, committed: &[u32], pending: &[u32]
         let version = m.versions[d];
         if objset::contains(k.writes, d) {
             let at = slot(c, m.objects as usize, d);
-            Outcome { answer: Answer::Value(pending[at], version), machine: n }
+            Outcome {
+                answer: Answer::Value(pending[at], version),
+                machine: n,
+            }
         } else {
-            Outcome { answer: Answer::Value(committed[d], version), machine: n }
+            Outcome {
+                answer: Answer::Value(committed[d], version),
+                machine: n,
+            }
         }
     } else {
-        Outcome { answer: Answer::Refused(9), machine: m }
+        Outcome {
+            answer: Answer::Refused(9),
+            machine: m,
+        }
     }
 }
 
 // Stores the pending word; the card joins the write set. 4 no such core, 5 no such card, 9 no transaction in progress. No other
 // word of the pending table changes.
-pub fn write(m: Machine, core: u32, card: u32, value: u32, committed: &[u32], pending: &mut [u32]) -> Outcome
+pub fn write(
+    m: Machine,
+    core: u32,
+    card: u32,
+    value: u32,
+    committed: &[u32],
+    pending: &mut [u32],
+) -> Outcome
     requires { ⌜ Fine (lent m (now committed) (now pending)) ⌝ }
     ensures { λ r. ⌜ left r (now (committed .entry)) (now (pending .exit)) ≡ writeRule (lent m (now (committed .entry)) (now (pending .entry))) core card value ⌝ }
 {
     if m.cores as u32 <= core {
-        return Outcome { answer: Answer::Refused(4), machine: m };
+        return Outcome {
+            answer: Answer::Refused(4),
+            machine: m,
+        };
     }
     if m.objects as u32 <= card {
-        return Outcome { answer: Answer::Refused(5), machine: m };
+        return Outcome {
+            answer: Answer::Refused(5),
+            machine: m,
+        };
     }
     let c = core as usize;
     let d = card as usize;
@@ -87,8 +118,14 @@ pub fn write(m: Machine, core: u32, card: u32, value: u32, committed: &[u32], pe
         n.core[c] = k;
         let at = slot(c, m.objects as usize, d);
         pending[at] = value;
-        Outcome { answer: Answer::Written, machine: n }
+        Outcome {
+            answer: Answer::Written,
+            machine: n,
+        }
     } else {
-        Outcome { answer: Answer::Refused(9), machine: m }
+        Outcome {
+            answer: Answer::Refused(9),
+            machine: m,
+        }
     }
 }

@@ -180,12 +180,10 @@ fn carry_through(m: Machine, c: usize, committed: &mut [u32], pending: &[u32]) -
     requires { ⌜ coreAt m c .active ≡ true ⌝ }
     requires { ⌜ length (now committed) ≡ m .objects ⌝ }
     requires { ⌜ length (now pending) ≡ m .cores * m .objects ⌝ }
-    ensures {
-        λ r. ⌜ record {
-          answer = r .answer;
-          world = record { machine = r .machine; committed = now (committed .exit); pending = now (pending .entry) };
-        } ≡ through (record { machine = m; committed = now (committed .entry); pending = now (pending .entry) }) c ⌝
-    }
+    ensures { λ r. ⌜ record {
+      answer = r .answer;
+      world = record { machine = r .machine; committed = now (committed .exit); pending = now (pending .entry) };
+    } ≡ through (record { machine = m; committed = now (committed .entry); pending = now (pending .entry) }) c ⌝ }
 {
     let objects = m.objects as usize;
     let own = m.core[c];

@@ -34,19 +34,31 @@ pub fn begin(m: Machine, core: u32) -> Outcome
     ensures { λ r. ⌜ r ≡ beginRule m core ⌝ }
 {
     if m.cores as u32 <= core {
-        return Outcome { answer: Answer::Refused(4), machine: m };
+        return Outcome {
+            answer: Answer::Refused(4),
+            machine: m,
+        };
     }
     let c = core as usize;
     let k = m.core[c];
     if k.count == 0 {
-        return Outcome { answer: Answer::Refused(7), machine: m };
+        return Outcome {
+            answer: Answer::Refused(7),
+            machine: m,
+        };
     }
     if k.active {
-        return Outcome { answer: Answer::Refused(8), machine: m };
+        return Outcome {
+            answer: Answer::Refused(8),
+            machine: m,
+        };
     }
     let ticket = m.tickets;
     if 4294967295 <= ticket {
-        return Outcome { answer: Answer::Refused(10), machine: m };
+        return Outcome {
+            answer: Answer::Refused(10),
+            machine: m,
+        };
     }
     let jobs = k.jobs;
     let mut n = m;
@@ -62,7 +74,10 @@ pub fn begin(m: Machine, core: u32) -> Outcome
         reads: 0,
         writes: 0,
     };
-    Outcome { answer: Answer::Begun(ticket), machine: n }
+    Outcome {
+        answer: Answer::Begun(ticket),
+        machine: n,
+    }
 }
 
 // The transaction ends without effect.

@@ -34,9 +34,10 @@ returns c = search needs
 returns-2 : tie.Need-returns-2
 returns-2 c =
     let fit = c .before in
-    let then1 = fit .before in
-    (commit-misfit _ _ (sym (then1 .before .is-sound .ensures) ∙ then1 .if1 .taken) (sym (fit .tables-fit .ensures) ∙ c .if2 .left) _,
-    λ e p. absurd (refused-not-waits 3 e p))
+    let then1 = fit .before in (
+      commit-misfit _ _ (sym (then1 .before .is-sound .ensures) ∙ then1 .if1 .taken) (sym (fit .tables-fit .ensures) ∙ c .if2 .left) _,
+      λ e p. absurd (refused-not-waits 3 e p),
+    )
 
 returns-3 : tie.Need-returns-3
 returns-3 c =

@@ -34,9 +34,11 @@ loop-less c = omega arith
 
 loop-again : tie.Need-loop-again Inv-loop μ-loop
 loop-again c =
-    let inv = c .before .loop .inv in
-    (omega arith, length-set (c .before .loop .table) (c .before .loop .i) 0 ∙ inv .1,
-    ap (λ (t : List ℕ). set t (c .before .loop .i) 0) (inv .2) ∙ fill-more (c .before .loop .i) 0 (c .before .before .args .table .now) (omega arith))
+    let inv = c .before .loop .inv in (
+      omega arith,
+      length-set (c .before .loop .table) (c .before .loop .i) 0 ∙ inv .1,
+      ap (λ (t : List ℕ). set t (c .before .loop .i) 0) (inv .2) ∙ fill-more (c .before .loop .i) 0 (c .before .before .args .table .now) (omega arith),
+    )
 
 same-length : tie.Need-same-length Inv-loop μ-loop
 same-length c = c .before .loop .inv .1

@@ -73,9 +73,11 @@ slot-requires c κs =
     let then3 = c .before .before in
     let else2 = then3 .before .before in
     let else1 = else2 .before in
-    let start = else1 .before .before .before in
-    (core-place _ (start .pre .is-sound) _ (else1 .if1 .left), stands _ (start .pre .is-sound) .few-objects,
-    object-place _ (start .pre .is-sound) _ (else2 .if2 .left))
+    let start = else1 .before .before .before in (
+      core-place _ (start .pre .is-sound) _ (else1 .if1 .left),
+      stands _ (start .pre .is-sound) .few-objects,
+      object-place _ (start .pre .is-sound) _ (else2 .if2 .left),
+    )
 
 mul-pending : tie.Need-mul-pending
 mul-pending c = omega (arith, c .slot .ensures .1)

@@ -12,9 +12,8 @@ cast-if1 : tie.Need-cast-if1
 cast-if1 c = search needs
 
 returns : tie.Need-returns
-returns c = 
-    let start = c .before .before .before in
-    (
+returns c =
+    let start = c .before .before .before in (
       commit-no-core _ _ (start .pre .is-sound) (start .pre .committed-long) (start .pre .pending-long) _ (c .if1 .taken),
       λ e p. cc,
     )
@@ -36,12 +35,11 @@ element-set-from-n c = core-place _ (c .before .before .before .before .before .
 
 returns-2 : tie.Need-returns-2
 unfolding told
-returns-2 c = 
-    let start = c .before .before .before .before .before .before .before in
-    (
+returns-2 c =
+    let start = c .before .before .before .before .before .before .before in (
       rw (c .without-mark .ensures)
-      (commit-told _ _ (start .pre .is-sound) (start .pre .committed-long) (start .pre .pending-long) (c .before .before .before .before .if1 .left) (c .before .before .if2 .taken) _
-      (c .before .if3 .taken)),
+          (commit-told _ _ (start .pre .is-sound) (start .pre .committed-long) (start .pre .pending-long) (c .before .before .before .before .if1 .left) (c .before .before .if2 .taken) _
+          (c .before .if3 .taken)),
       λ e p. cc,
     )
 
@@ -55,20 +53,19 @@ enum-told : tie.Need-enum-told
 enum-told c = search needs
 
 carry-through-requires : tie.Need-carry-through-requires
-carry-through-requires c κs = 
+carry-through-requires c κs =
     let start = c .before .before .before .before .before .before .before .before .before .before .before in
     (start .pre .is-sound, (c .before .before .before .before .before .before .before .before .if1 .left, (c .before .before .before .before .before .before .if2 .taken, (start .pre .committed-long, start .pre .pending-long))))
 
 returns-3 : tie.Need-returns-3
 unfolding named
-returns-3 c = 
+returns-3 c =
     let start = c .before .before .before .before .before .before .before .before .before .before in
     let e = c .before .e .given .0 .0 in
-    let held = c .before .before .before .contender-of .ensures .0 e (c .before .e .given .1) in
-    (
+    let held = c .before .before .before .contender-of .ensures .0 e (c .before .e .given .1) in (
       commit-waits _ _ (start .pre .is-sound) (start .pre .committed-long) (start .pre .pending-long) (c .before .before .before .before .before .before .before .if1 .left)
-      (c .before .before .before .before .before .if2 .taken) (c .before .before .before .before .if3 .left) e
-      (someone-ahead (start .args .t1) (start .pre .is-sound) (start .args .core) e (held .0) (held .1)),
+          (c .before .before .before .before .before .if2 .taken) (c .before .before .before .before .if3 .left) e
+          (someone-ahead (start .args .t1) (start .pre .is-sound) (start .args .core) e (held .0) (held .1)),
       λ f p. cc (held .1),
     )
 
@@ -79,19 +76,17 @@ same-length-2 : tie.Need-same-length-2
 same-length-2 c = search needs
 
 returns-4 : tie.Need-returns-4
-returns-4 c = 
+returns-4 c =
     let start = c .before .before .before .before .before .before .before .before .before .before .before .before .before .before in
-    let nobody = c .before .before .before .before .before .before .before .contender-of .ensures .1 (c .before .before .before .before .before .enum-told .given .1) in
-    (
+    let nobody = c .before .before .before .before .before .before .before .contender-of .ensures .1 (c .before .before .before .before .before .enum-told .given .1) in (
       c .before .before .carry-through .ensures
-      ∙ commit-through _ _ (start .pre .is-sound) (start .pre .committed-long) (start .pre .pending-long) (c .before .before .before .before .before .before .before .before .before .before .before .if1 .left) (c .before .before .before .before .before .before .before .before .before .if2 .taken) (c .before .before .before .before .before .before .before .before .if3 .left) _ nobody,
+          ∙ commit-through _ _ (start .pre .is-sound) (start .pre .committed-long) (start .pre .pending-long) (c .before .before .before .before .before .before .before .before .before .before .before .if1 .left) (c .before .before .before .before .before .before .before .before .before .if2 .taken) (c .before .before .before .before .before .before .before .before .if3 .left) _ nobody,
       λ e p. absurd (through-never-waits _ _ _ (c .before .before .carry-through .ensures) e p),
     )
 
 returns-5 : tie.Need-returns-5
-returns-5 c = 
-    let start = c .before .before .before .before .before in
-    (
+returns-5 c =
+    let start = c .before .before .before .before .before in (
       commit-none _ _ (start .pre .is-sound) (start .pre .committed-long) (start .pre .pending-long) (c .before .before .if1 .left) _ (c .if2 .left),
       λ e p. cc,
     )

@@ -15,12 +15,12 @@ add-t7 : tie.Need-add-t7
 add-t7 c = search needs
 
 returns : tie.Need-returns
-returns c = 
+returns c =
     struck-hit _ _ _ (c .before .before .before .before .before .if1 .taken) (c .before .before .before .before .union .ensures)
     (sym (c .before .before .before .meets .ensures) ∙ c .before .before .if2 .taken)
 
 returns-2 : tie.Need-returns-2
-returns-2 c = 
+returns-2 c =
     struck-missed _ _ _ (c .before .before .before .if1 .taken) (c .before .before .union .ensures)
     (sym (c .before .meets .ensures) ∙ c .if2 .left)
 
