@@ -17,12 +17,12 @@ element-copy-out-own : tie.Need-element-copy-out-own
 element-copy-out-own c = core-place _ (c .before .before .pre .0) _ (c .before .before .pre .1 .0)
 
 mul-move-cards : tie.Need-mul-move-cards
-mul-move-cards c = 
+mul-move-cards c =
     let start = c .before .before .before in
     omega (arith, row-within (start .args .c) (start .args .t1 .cores) (start .args .t1 .objects) (start .pre .1 .0))
 
 move-cards-requires : tie.Need-move-cards-requires
-move-cards-requires c κs = 
+move-cards-requires c κs =
     let start = c .before .before .before .before in
     omega (arith, row-within (start .args .c) (start .args .t1 .cores) (start .args .t1 .objects) (start .pre .1 .0))
 
@@ -30,7 +30,7 @@ slice-aggregate-raise-versions : tie.Need-slice-aggregate-raise-versions
 slice-aggregate-raise-versions c = search needs
 
 raise-versions-requires : tie.Need-raise-versions-requires
-raise-versions-requires c κs = 
+raise-versions-requires c κs =
     let start = c .before .before .before .before .before .before .before .before .before in
     let m = start .args .t1 in
     versions-ready m (start .pre .0) (start .args .c) (start .pre .1 .0) (start .pre .1 .1 .0) (search needs) (omega arith)
@@ -39,16 +39,15 @@ cast-cores-after : tie.Need-cast-cores-after
 cast-cores-after c = search needs
 
 cores-after-requires : tie.Need-cores-after-requires
-cores-after-requires c κs = 
+cores-after-requires c κs =
     let start = c .before .before .before .before .before .before .before .before .before .before .before .before in
-    let m = start .args .t1 in
-    (
+    let m = start .args .t1 in (
       stands m (start .pre .0) .few-cores,
       (start .pre .1 .0, (few-aborts m (start .pre .0), λ e l p. stands m (start .pre .0) .turns .lacked e l p)),
     )
 
-add-t26 : tie.Need-add-t26
-add-t26 c = 
+add-commits : tie.Need-add-commits
+add-commits c =
     let start = c .before .before .before .before .before .before .before .before .before .before .before .before .before in
     omega (arith, one-open (start .args .t1) (start .pre .0) (start .args .c) (start .pre .1 .0) (start .pre .1 .1 .0))
 
@@ -77,6 +76,6 @@ carry-through-spec =
     raise-versions-requires
     cast-cores-after
     cores-after-requires
-    add-t26
+    add-commits
     same-length
     returns)

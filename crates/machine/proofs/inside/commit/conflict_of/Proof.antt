@@ -27,7 +27,7 @@ meets-requires-2 c κs = search needs
 returns-2 : tie.Need-returns-2
 returns-2 c =
     let a = c .before .before .before .before .before .args .a in
-    let b = c .before .before .before .before .before .args .b in 
+    let b = c .before .before .before .before .before .args .b in
     c .meets2 .ensures
     ∙ conflict-right a b (c .before .before .before .before .union .result) (c .before .union2 .result)
     (c .before .before .before .before .union .ensures) (c .before .union2 .ensures)

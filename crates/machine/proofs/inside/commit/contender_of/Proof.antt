@@ -43,8 +43,7 @@ returns : tie.Need-returns Inv-loop μ-loop
 unfolding contender
 returns c = (
   λ e p.
-      let at : c .before .before .before .before .loop .e ≡ e = cc in
-      (
+      let at : c .before .before .before .before .loop .e ≡ e = cc in (
         omega (arith, core-place _ (c .before .before .before .before .before .before .pre .0) _ (c .before .before .before .loop-test .taken)),
         cc (sym (c .before .holds-back .ensures) ∙ c .if1 .taken),
       ),

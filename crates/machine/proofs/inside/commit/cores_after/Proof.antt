@@ -60,15 +60,14 @@ loop-again : tie.Need-loop-again Inv-loop μ-loop
 loop-again c =
     let start = c .before .before .before .before in
     let at = c .before .before .before .loop in
-    let long : length (start .args .cores) ≡ 16 = search needs in
-    (
+    let long : length (start .args .cores) ≡ 16 = search needs in (
       omega arith,
       ⊎-elim
-      (λ w. cleared-own (start .args .ws) (start .args .c) (start .args .cores) (at .e) (at .after) (at .inv .1) (omega arith) _ (w .0 .taken)
-      (w .2 ∙ ap (set (at .after) (at .e)) (w .1 .ensures)))
-      (λ w. cleared-other (start .args .ws) (start .args .c) (start .args .cores) (at .e) (at .after) (at .inv .1) (omega arith) _ (w .0 .left)
-      (w .2 ∙ ap (set (at .after) (at .e)) (w .1 .ensures)))
-      (c .if1 .came),
+          (λ w. cleared-own (start .args .ws) (start .args .c) (start .args .cores) (at .e) (at .after) (at .inv .1) (omega arith) _ (w .0 .taken)
+          (w .2 ∙ ap (set (at .after) (at .e)) (w .1 .ensures)))
+          (λ w. cleared-other (start .args .ws) (start .args .c) (start .args .cores) (at .e) (at .after) (at .inv .1) (omega arith) _ (w .0 .left)
+          (w .2 ∙ ap (set (at .after) (at .e)) (w .1 .ensures)))
+          (c .if1 .came),
     )
 
 returns : tie.Need-returns Inv-loop μ-loop

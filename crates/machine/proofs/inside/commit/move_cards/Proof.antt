@@ -46,25 +46,24 @@ loop-less : tie.Need-loop-less Inv-loop μ-loop
 loop-less c = search needs
 
 loop-again : tie.Need-loop-again Inv-loop μ-loop
-loop-again c = 
+loop-again c =
     let start = c .before .before .before .before .before .before in
     let at = c .before .before .before .loop in
-    let moved : ℕ → ℕ → ℕ = λ d v. getD (start .args .pending .now) (start .args .base + d) 0 in
-    (
+    let moved : ℕ → ℕ → ℕ = λ d v. getD (start .args .pending .now) (start .args .base + d) 0 in (
       omega arith,
       ⊎-elim
-      (λ w. changed-stored (start .args .ws) moved (start .args .committed .now) (at .d) (at .committed) (at .inv .1) (omega arith) _
-      (sym (c .before .contains .ensures) ∙ w .0 .taken) (w .2))
-      (λ w. changed-kept (start .args .ws) moved (start .args .committed .now) (at .d) (at .committed) (at .inv .1) (omega arith) _
-      (sym (c .before .contains .ensures) ∙ w .0 .left) (w .1))
-      (c .if1 .came),
+          (λ w. changed-stored (start .args .ws) moved (start .args .committed .now) (at .d) (at .committed) (at .inv .1) (omega arith) _
+          (sym (c .before .contains .ensures) ∙ w .0 .taken) (w .2))
+          (λ w. changed-kept (start .args .ws) moved (start .args .committed .now) (at .d) (at .committed) (at .inv .1) (omega arith) _
+          (sym (c .before .contains .ensures) ∙ w .0 .left) (w .1))
+          (c .if1 .came),
     )
 
 same-length : tie.Need-same-length Inv-loop μ-loop
 same-length c = c .before .loop .inv .1 .0
 
 returns : tie.Need-returns Inv-loop μ-loop
-returns c = 
+returns c =
     let start = c .before .before .before .before in
     changed-done (start .args .ws) _ (start .args .committed .now) (c .before .loop .d) _ (c .before .loop .inv .1)
     (λ d l p. omega arith)

@@ -30,7 +30,7 @@ slice-read-versions : tie.Need-slice-read-versions Inv-loop μ-loop
 slice-read-versions c = search needs
 
 add-versions : tie.Need-add-versions Inv-loop μ-loop
-add-versions c = 
+add-versions c =
     let start = c .before .before .before .before .before .before in
     let at = c .before .before .before .before .loop in
     omega (
@@ -52,24 +52,23 @@ loop-less : tie.Need-loop-less Inv-loop μ-loop
 loop-less c = search needs
 
 loop-again : tie.Need-loop-again Inv-loop μ-loop
-loop-again c = 
+loop-again c =
     let start = c .before .before .before .before .before in
-    let at = c .before .before .before .loop in
-    (
+    let at = c .before .before .before .loop in (
       omega arith,
       ⊎-elim
-      (λ w. changed-stored (start .args .ws) (λ d v. v + 1) (start .args .versions .now) (at .d) (at .versions) (at .inv .1) (omega arith) _
-      (sym (c .before .contains .ensures) ∙ w .0 .taken) (w .2))
-      (λ w. changed-kept (start .args .ws) (λ d v. v + 1) (start .args .versions .now) (at .d) (at .versions) (at .inv .1) (omega arith) _
-      (sym (c .before .contains .ensures) ∙ w .0 .left) (w .1))
-      (c .if1 .came),
+          (λ w. changed-stored (start .args .ws) (λ d v. v + 1) (start .args .versions .now) (at .d) (at .versions) (at .inv .1) (omega arith) _
+          (sym (c .before .contains .ensures) ∙ w .0 .taken) (w .2))
+          (λ w. changed-kept (start .args .ws) (λ d v. v + 1) (start .args .versions .now) (at .d) (at .versions) (at .inv .1) (omega arith) _
+          (sym (c .before .contains .ensures) ∙ w .0 .left) (w .1))
+          (c .if1 .came),
     )
 
 same-length : tie.Need-same-length Inv-loop μ-loop
 same-length c = c .before .loop .inv .1 .0
 
 returns : tie.Need-returns Inv-loop μ-loop
-returns c = 
+returns c =
     let start = c .before .before .before in
     changed-done (start .args .ws) (λ d v. v + 1) (start .args .versions .now) (c .before .loop .d) _ (c .before .loop .inv .1)
     (λ d l p. omega (arith, start .pre .1 .0 d l p))

@@ -11,16 +11,16 @@ union-requires c κs = search needs
 meets-requires : tie.Need-meets-requires
 meets-requires c κs = search needs
 
-add-t7 : tie.Need-add-t7
-add-t7 c = search needs
+add-aborts : tie.Need-add-aborts
+add-aborts c = search needs
 
 returns : tie.Need-returns
-returns c = 
+returns c =
     struck-hit _ _ _ (c .before .before .before .before .before .if1 .taken) (c .before .before .before .before .union .ensures)
     (sym (c .before .before .before .meets .ensures) ∙ c .before .before .if2 .taken)
 
 returns-2 : tie.Need-returns-2
-returns-2 c = 
+returns-2 c =
     struck-missed _ _ _ (c .before .before .before .if1 .taken) (c .before .before .union .ensures)
     (sym (c .before .meets .ensures) ∙ c .if2 .left)
 
@@ -29,4 +29,4 @@ returns-3 c = struck-idle _ _ (c .if1 .left)
 
 pub struck-by-spec : {M : Type 1} → statement M
 struck-by-spec =
-    tie.close (tie.spec union-requires meets-requires add-t7 returns returns-2 returns-3)
+    tie.close (tie.spec union-requires meets-requires add-aborts returns returns-2 returns-3)
