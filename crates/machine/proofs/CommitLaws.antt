@@ -55,12 +55,14 @@ module _ (ws c : ℕ) (old : List Core) where
     pub cleared-next : getD now e noCore ≡ getD old e noCore
     cleared-next = stands-next (cleared ws c 0 old) old (cleared-long ws c 0 old) e now noCore at l
 
-    pub cleared-own : (next : List Core) → e ≡ c → next ≡ set now e (over (getD now e noCore)) → Stands (e + 1) (cleared ws c 0 old) old next
+    pub cleared-own : (next : List Core) → e ≡ c → next ≡ set now e (over (getD now e noCore))
+        → Stands (e + 1) (cleared ws c 0 old) old next
     cleared-own next p =
         stands-stored (cleared ws c 0 old) old (cleared-long ws c 0 old) e now next noCore _ at l
         (ap over cleared-next ∙ sym (cleared-at ws c old e l ∙ rw (eq-eqb e c p) refl))
 
-    pub cleared-other : (next : List Core) → (e ≡ c → ⊥) → next ≡ set now e (struck ws (getD now e noCore)) → Stands (e + 1) (cleared ws c 0 old) old next
+    pub cleared-other : (next : List Core) → (e ≡ c → ⊥) → next ≡ set now e (struck ws (getD now e noCore))
+        → Stands (e + 1) (cleared ws c 0 old) old next
     cleared-other next p =
         stands-stored (cleared ws c 0 old) old (cleared-long ws c 0 old) e now next noCore _ at l
         (ap (struck ws) cleared-next ∙ sym (cleared-at ws c old e l ∙ rw (ne-eqb e c p) refl))
@@ -81,7 +83,8 @@ module _ (ws : ℕ) (f : ℕ → ℕ → ℕ) (old : List ℕ) where
     pub changed-next : getD now d 0 ≡ getD old d 0
     changed-next = stands-next (changed ws f 0 old) old (changed-long ws f 0 old) d now 0 at l
 
-    pub changed-stored : (next : List ℕ) → has ws d ≡ true → next ≡ set now d (f d (getD now d 0)) → Stands (d + 1) (changed ws f 0 old) old next
+    pub changed-stored : (next : List ℕ) → has ws d ≡ true → next ≡ set now d (f d (getD now d 0))
+        → Stands (d + 1) (changed ws f 0 old) old next
     changed-stored next p =
         stands-stored (changed ws f 0 old) old (changed-long ws f 0 old) d now next 0 _ at l
         (ap (f d) changed-next ∙ sym (changed-at ws f old d l ∙ rw p refl))
@@ -112,6 +115,10 @@ contender-idle : (m : Machine) (c e : ℕ) → coreAt m e .active ≡ false → 
 unfolding contender
 contender-idle m c e off = rw off
 
+pub someone-ahead : (m : Machine) (c e : ℕ) → e < 16 → contender m c e ≡ true → blocked m c ≡ true
+unfolding blocked
+someone-ahead m c e l p = one-some 16 (contender m c) e l p
+
 module _ (m : Machine) (s : sound m ≡ true) where
   -- a core that the machine lacks holds nobody back
   pub nobody-ahead : (c : ℕ) → ((e : ℕ) → e < m .cores → contender m c e ≡ false) → blocked m c ≡ false
@@ -121,10 +128,6 @@ module _ (m : Machine) (s : sound m ≡ true) where
       go : (e : ℕ) → e < 16 → (q : Bool) → ltb e (m .cores) ≡ q → contender m c e ≡ false
       go e l true p = h e (ltb-true e (m .cores) p)
       go e l false p = contender-idle m c e (stands m s .turns .lacked e l (ltb-false e (m .cores) p))
-
-  pub someone-ahead : (c e : ℕ) → e < 16 → contender m c e ≡ true → blocked m c ≡ true
-  unfolding blocked
-  someone-ahead c e l p = one-some 16 (contender m c) e l p
 
   -- setbacks are fewer than cores
   pub few-aborts : (e : ℕ) → e < 16 → coreAt m e .aborts < 255

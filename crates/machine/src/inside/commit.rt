@@ -64,7 +64,7 @@ fn contender_of(m: Machine, c: usize) -> Ahead
     Ahead::Nobody
 }
 
-// Core k with its transaction's mark taken away, and all else as it was.
+// Core k with its transaction's mark taken away; all else stays.
 fn without_mark(k: Core) -> Core
     ensures { λ r. ⌜ r ≡ unmarked k ⌝ }
 {
@@ -73,7 +73,7 @@ fn without_mark(k: Core) -> Core
     told
 }
 
-// Core k with its jobs and no transaction.
+// Core k with no transaction; its jobs stay.
 fn without_transaction(k: Core) -> Core
     ensures { λ r. ⌜ r ≡ over k ⌝ }
 {
@@ -92,7 +92,7 @@ fn without_transaction(k: Core) -> Core
 }
 
 // Core k after another's commit of the write set ws: a transaction whose data set meets ws is aborted and marked, with
-// empty sets and one setback more; any other core is as it was.
+// empty sets and one setback more; its ticket and jobs stay. Any other core is as it was.
 fn struck_by(ws: u64, k: Core) -> Core
     requires { ⌜ k .aborts < 255 ⌝ }
     ensures { λ r. ⌜ r ≡ struck ws k ⌝ }
@@ -100,13 +100,14 @@ fn struck_by(ws: u64, k: Core) -> Core
     if k.active {
         if objset::meets(ws, objset::union(k.reads, k.writes)) {
             let jobs = k.jobs;
+            let aborts = k.aborts + 1;
             return Core {
                 jobs,
                 count: k.count,
                 active: k.active,
                 owner: k.owner,
                 ticket: k.ticket,
-                aborts: k.aborts + 1,
+                aborts,
                 zombie: true,
                 reads: 0,
                 writes: 0,
@@ -117,8 +118,8 @@ fn struck_by(ws: u64, k: Core) -> Core
     k
 }
 
-// The cores after the commit of core c with the write set ws: c has no transaction, every other is struck. Only the first
-// n are looked at: no other has a transaction.
+// The cores after core c commits the write set ws: c has no transaction, and each transaction that ws strikes is aborted.
+// Only the first n are looked at: no other has a transaction.
 fn cores_after(cores: [Core; 16], n: usize, c: usize, ws: u64) -> [Core; 16]
     requires { ⌜ n ≤ 16 ⌝ }
     requires { ⌜ c < n ⌝ }
@@ -140,7 +141,8 @@ fn cores_after(cores: [Core; 16], n: usize, c: usize, ws: u64) -> [Core; 16]
     after
 }
 
-// Raises the version of each object in the write set ws by one. Only the first n are looked at: ws holds no other.
+// Raises the version of each object in the write set ws by one; the others keep theirs. Only the first n are looked at: ws
+// holds no other.
 fn raise_versions(ws: u64, n: usize, versions: &mut [u32])
     requires { ⌜ n ≤ length (now versions) ⌝ }
     requires { ⌜ ((d : ℕ) → d < length (now versions) → has ws d ≡ true → d < n) ⌝ }
@@ -156,8 +158,8 @@ fn raise_versions(ws: u64, n: usize, versions: &mut [u32])
     }
 }
 
-// Moves the pending value of each object in the write set ws into the committed table; the others keep theirs. The pending
-// values of the core start at base.
+// Stores the pending value of each object in the write set ws as its committed value; the others keep theirs. The pending
+// values of the core start at base, and stay.
 fn move_cards(ws: u64, base: usize, committed: &mut [u32], pending: &[u32])
     requires { ⌜ base + length (now committed) ≤ length (now pending) ⌝ }
     ensures { λ r. ⌜ now (committed .exit) ≡ changed ws (λ d v. getD (now (pending .entry)) (base + d) 0) 0 (now (committed .entry)) ⌝ }
@@ -171,9 +173,8 @@ fn move_cards(ws: u64, base: usize, committed: &mut [u32], pending: &[u32])
     }
 }
 
-// The transaction of core c, which nobody holds back, commits: it ends, its write set's pending values become committed and
-// their versions rise by one, and every transaction whose data set meets the write set is aborted. The pending table keeps
-// every word.
+// The transaction of core c goes through: it ends, the pending values of its write set become committed and their versions
+// rise by one, and every transaction whose data set meets the write set is aborted. The pending table keeps every word.
 fn carry_through(m: Machine, c: usize, committed: &mut [u32], pending: &[u32]) -> Outcome
     requires { ⌜ sound m ≡ true ⌝ }
     requires { ⌜ c < m .cores ⌝ }
@@ -192,13 +193,14 @@ fn carry_through(m: Machine, c: usize, committed: &mut [u32], pending: &[u32]) -
     raise_versions(own.writes, objects, &mut versions);
     let cores = m.core;
     let core = cores_after(cores, m.cores as usize, c, own.writes);
+    let commits = m.commits + 1;
     Outcome {
         answer: Answer::Committed(own.aborts),
         machine: Machine {
             cores: m.cores,
             objects: m.objects,
             tickets: m.tickets,
-            commits: m.commits + 1,
+            commits,
             give_ups: m.give_ups,
             core,
             versions,
@@ -206,9 +208,10 @@ fn carry_through(m: Machine, c: usize, committed: &mut [u32], pending: &[u32]) -
     }
 }
 
-// Commits the transaction of a core. Refused where there is no such core (4) or it has no transaction (9); a marked
-// transaction is told that it was set back, and loses its mark; one that conflicts with a smaller ticket waits; any other
-// commits.
+// Commits the transaction of a core. It is refused where there is no such core (4) or no transaction (9). A marked
+// transaction is told that it was set back, and loses its mark and nothing more. One that conflicts with a smaller ticket
+// waits. Any other goes through. A refusal or a wait leaves the record and both tables as they are, and no call changes the
+// pending table.
 pub fn commit(m: Machine, core: u32, committed: &mut [u32], pending: &mut [u32]) -> Outcome
     requires { ⌜ Fine (lent m (now committed) (now pending)) ⌝ }
     ensures rule { λ r. ⌜ left r (now (committed .exit)) (now (pending .exit)) ≡ commitRule (named (r .answer)) (lent m (now (committed .entry)) (now (pending .entry))) core ⌝ }
@@ -224,8 +227,9 @@ pub fn commit(m: Machine, core: u32, committed: &mut [u32], pending: &mut [u32])
     let k = m.core[c];
     if k.active {
         if k.zombie {
+            let told = without_mark(k);
             let mut n = m;
-            n.core[c] = without_mark(k);
+            n.core[c] = told;
             return Outcome {
                 answer: Answer::SetBack,
                 machine: n,

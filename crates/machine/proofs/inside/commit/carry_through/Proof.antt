@@ -46,8 +46,8 @@ cores-after-requires c κs =
       (start .pre .1 .0, (few-aborts m (start .pre .0), λ e l p. stands m (start .pre .0) .turns .lacked e l p)),
     )
 
-add-t26 : tie.Need-add-t26
-add-t26 c =
+add-commits : tie.Need-add-commits
+add-commits c =
     let start = c .before .before .before .before .before .before .before .before .before .before .before .before .before in
     omega (arith, one-open (start .args .t1) (start .pre .0) (start .args .c) (start .pre .1 .0) (start .pre .1 .1 .0))
 
@@ -76,6 +76,6 @@ carry-through-spec =
     raise-versions-requires
     cast-cores-after
     cores-after-requires
-    add-t26
+    add-commits
     same-length
     returns)

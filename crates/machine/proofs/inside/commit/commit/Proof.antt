@@ -27,24 +27,28 @@ element-copy-out-k c = core-place _ (c .before .before .before .pre .is-sound) _
 without-mark-requires : tie.Need-without-mark-requires
 without-mark-requires c κs = search needs
 
-mul-t23 : tie.Need-mul-t23
-mul-t23 c = search needs
+mul-told : tie.Need-mul-told
+mul-told c = search needs
 
-element-set-from-n : tie.Need-element-set-from-n
-element-set-from-n c = core-place _ (c .before .before .before .before .before .before .before .pre .is-sound) _ (c .before .before .before .before .if1 .left)
+element-set-from-told : tie.Need-element-set-from-told
+element-set-from-told c =
+    let start = c .before .before .before .before .before .before .before in
+    core-place _ (start .pre .is-sound) _ (c .before .before .before .before .if1 .left)
 
 returns-2 : tie.Need-returns-2
 unfolding told
 returns-2 c =
     let start = c .before .before .before .before .before .before .before in (
       rw (c .without-mark .ensures)
-          (commit-told _ _ (start .pre .is-sound) (start .pre .committed-long) (start .pre .pending-long) (c .before .before .before .before .if1 .left) (c .before .before .if2 .taken) _
-          (c .before .if3 .taken)),
+          (commit-told _ _ (start .pre .is-sound) (start .pre .committed-long) (start .pre .pending-long) (c .before .before .before .before .if1 .left)
+          (c .before .before .if2 .taken) _ (c .before .if3 .taken)),
       λ e p. cc,
     )
 
 contender-of-requires : tie.Need-contender-of-requires
-contender-of-requires c κs = (c .before .before .before .before .before .before .pre .is-sound, core-place _ (c .before .before .before .before .before .before .pre .is-sound) _ (c .before .before .before .if1 .left))
+contender-of-requires c κs =
+    let start = c .before .before .before .before .before .before in
+    (start .pre .is-sound, core-place _ (start .pre .is-sound) _ (c .before .before .before .if1 .left))
 
 enum-known-e : tie.Need-enum-known-e
 enum-known-e c = search needs
@@ -54,18 +58,20 @@ enum-told c = search needs
 
 carry-through-requires : tie.Need-carry-through-requires
 carry-through-requires c κs =
-    let start = c .before .before .before .before .before .before .before .before .before .before .before in
-    (start .pre .is-sound, (c .before .before .before .before .before .before .before .before .if1 .left, (c .before .before .before .before .before .before .if2 .taken, (start .pre .committed-long, start .pre .pending-long))))
+    let asked = c .before .before .before .before .before in
+    let start = asked .before .before .before .before .before .before in
+    (start .pre .is-sound, (asked .before .before .before .if1 .left, (asked .before .if2 .taken, (start .pre .committed-long, start .pre .pending-long))))
 
 returns-3 : tie.Need-returns-3
 unfolding named
 returns-3 c =
-    let start = c .before .before .before .before .before .before .before .before .before .before in
+    let asked = c .before .before .before .before in
+    let start = asked .before .before .before .before .before .before in
     let e = c .before .e .given .0 .0 in
     let held = c .before .before .before .contender-of .ensures .0 e (c .before .e .given .1) in (
-      commit-waits _ _ (start .pre .is-sound) (start .pre .committed-long) (start .pre .pending-long) (c .before .before .before .before .before .before .before .if1 .left)
-          (c .before .before .before .before .before .if2 .taken) (c .before .before .before .before .if3 .left) e
-          (someone-ahead (start .args .t1) (start .pre .is-sound) (start .args .core) e (held .0) (held .1)),
+      commit-waits _ _ (start .pre .is-sound) (start .pre .committed-long) (start .pre .pending-long) (asked .before .before .before .if1 .left)
+          (asked .before .if2 .taken) (asked .if3 .left) e
+          (someone-ahead (start .args .t1) (start .args .core) e (held .0) (held .1)),
       λ f p. cc (held .1),
     )
 
@@ -77,11 +83,15 @@ same-length-2 c = search needs
 
 returns-4 : tie.Need-returns-4
 returns-4 c =
-    let start = c .before .before .before .before .before .before .before .before .before .before .before .before .before .before in
-    let nobody = c .before .before .before .before .before .before .before .contender-of .ensures .1 (c .before .before .before .before .before .enum-told .given .1) in (
-      c .before .before .carry-through .ensures
-          ∙ commit-through _ _ (start .pre .is-sound) (start .pre .committed-long) (start .pre .pending-long) (c .before .before .before .before .before .before .before .before .before .before .before .if1 .left) (c .before .before .before .before .before .before .before .before .before .if2 .taken) (c .before .before .before .before .before .before .before .before .if3 .left) _ nobody,
-      λ e p. absurd (through-never-waits _ _ _ (c .before .before .carry-through .ensures) e p),
+    let answered = c .before .before .before .before .before .before .before in
+    let asked = answered .before in
+    let start = asked .before .before .before .before .before .before in
+    let through = c .before .before .carry-through .ensures in (
+      through
+          ∙ commit-through _ _ (start .pre .is-sound) (start .pre .committed-long) (start .pre .pending-long) (asked .before .before .before .if1 .left)
+          (asked .before .if2 .taken) (asked .if3 .left) _
+          (answered .contender-of .ensures .1 (c .before .before .before .before .before .enum-told .given .1)),
+      λ e p. absurd (through-never-waits _ _ _ through e p),
     )
 
 returns-5 : tie.Need-returns-5
@@ -100,8 +110,8 @@ commit-spec =
     mul-k
     element-copy-out-k
     without-mark-requires
-    mul-t23
-    element-set-from-n
+    mul-told
+    element-set-from-told
     returns-2
     contender-of-requires
     enum-known-e

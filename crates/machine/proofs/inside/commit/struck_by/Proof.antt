@@ -11,8 +11,8 @@ union-requires c κs = search needs
 meets-requires : tie.Need-meets-requires
 meets-requires c κs = search needs
 
-add-t7 : tie.Need-add-t7
-add-t7 c = search needs
+add-aborts : tie.Need-add-aborts
+add-aborts c = search needs
 
 returns : tie.Need-returns
 returns c =
@@ -29,4 +29,4 @@ returns-3 c = struck-idle _ _ (c .if1 .left)
 
 pub struck-by-spec : {M : Type 1} → statement M
 struck-by-spec =
-    tie.close (tie.spec union-requires meets-requires add-t7 returns returns-2 returns-3)
+    tie.close (tie.spec union-requires meets-requires add-aborts returns returns-2 returns-3)
