@@ -23,10 +23,11 @@ use Rattle.machine.proofs.Sound.Passed.{if-true, true-if, both, passed,
 
 -- ---- one core
 
--- its list and its transaction: owner listed, idle clear, marked empty
+-- empty sets, no mark, and owner's place, ticket and setbacks 0
 abbrev pub clearOf : Core → Bool
 clearOf k = emptySets k && not (k .zombie) && eqb (k .owner) 0 && eqb (k .ticket) 0 && eqb (k .aborts) 0
 
+-- what transaction_tidy tests
 abbrev pub transactionOf : Core → Bool
 transactionOf k = (k .active ⇒ ltb (k .owner) (k .count)) && (not (k .active) ⇒ clearOf k) && (k .zombie ⇒ emptySets k)
 
@@ -46,7 +47,7 @@ owner-in-list k e on =
     (if-true (k .active) (ltb (k .owner) (k .count))
     (both-left _ (not (k .active) ⇒ clearOf k) (both-left _ (k .zombie ⇒ emptySets k) e)) on)
 
--- unused places: those from count on
+-- the places from n on hold zeros
 abbrev pub unusedZero : List Job → ℕ → Bool
 unusedZero jobs n = each 8 (λ p. leb n p ⇒ zeroJob (getD jobs p noJob))
 
@@ -58,7 +59,7 @@ unused-zero jobs n p l h =
 pub unused-not-zero : (jobs : List Job) (n p : ℕ) → n ≤ p → p < 8 → zeroJob (getD jobs p noJob) ≡ false → false ≡ unusedZero jobs n
 unused-not-zero jobs n p l b e = each-fails 8 _ p b (rw (le-leb n p l, e))
 
--- the jobs before the owner's
+-- every job before the owner's, at o, has a greater deadline
 abbrev pub firstAt : List Job → ℕ → Bool
 firstAt jobs o = each 8 (λ p. ltb p o ⇒ ltb (getD jobs o noJob .deadline) (getD jobs p noJob .deadline))
 
@@ -77,15 +78,19 @@ owner-not-first jobs o p b l h =
 -- what core_tidy tests
 abbrev pub tidyOf : ℕ → Core → Bool
 tidyOf objects k =
-    below (k .reads) objects && below (k .writes) objects && (k .active ⇒ ltb (k .owner) (k .count)) && (not (k .active) ⇒ clearOf k)
-    && (k .zombie ⇒ emptySets k) && leb (k .count) 8 && unusedZero (k .jobs) (k .count) && (k .active ⇒ firstAt (k .jobs) (k .owner))
+    below (k .reads) objects && below (k .writes) objects && (k .active ⇒ ltb (k .owner) (k .count))
+    && (not (k .active) ⇒ clearOf k) && (k .zombie ⇒ emptySets k) && leb (k .count) 8 && unusedZero (k .jobs) (k .count)
+    && (k .active ⇒ firstAt (k .jobs) (k .owner))
 
+-- what lacked_blank tests of core c
 abbrev pub lackedAt : Machine → ℕ → Bool
 lackedAt m c = leb (m .cores) c ⇒ eqb (coreAt m c .count) 0 && not (coreAt m c .active)
 
+-- what cores_tidy tests of core c
 abbrev pub tidyAt : Machine → ℕ → Bool
 tidyAt m c = tidyOf (m .objects) (coreAt m c) && lackedAt m c
 
+-- the rules so tested
 abbrev pub tidyCores : Machine → Bool
 tidyCores m =
     setsWithin m && ownerListed m && idleClear m && zombieEmpty m && atMostEight m && unusedJobs m && ownerFirst m && lackedCores m
@@ -104,9 +109,11 @@ tidy-all m c p q e = each-all 16 c (tidyAt m) p q e ∙ cores-tidy m
 
 -- ---- versions
 
+-- what versions_bounded tests of object d
 abbrev pub versionAt : Machine → ℕ → Bool
 versionAt m d = leb (getD (m .versions) d 0) (m .commits) && (leb (m .objects) d ⇒ eqb (getD (m .versions) d 0) 0)
 
+-- the rules so tested
 abbrev pub boundedVersions : Machine → Bool
 boundedVersions m = versionsBounded m && lackedObjects m
 
@@ -130,18 +137,21 @@ differsFrom m t e = coreAt m e .active ⇒ not (eqb t (coreAt m e .ticket))
 abbrev pub turnOf : Machine → ℕ → ℕ → ℕ → Bool
 turnOf m c t b = each c (differsFrom m t) && ltb t (m .tickets) && ltb (b + ahead m t) (m .cores)
 
+-- what turns_kept tests of core c
 abbrev pub turnAt : Machine → ℕ → Bool
 turnAt m c =
     each c (λ e. coreAt m c .active && coreAt m e .active ⇒ not (eqb (coreAt m c .ticket) (coreAt m e .ticket)))
     && (coreAt m c .active ⇒ ltb (coreAt m c .ticket) (m .tickets))
     && (coreAt m c .active ⇒ ltb (coreAt m c .aborts + ahead m (coreAt m c .ticket)) (m .cores))
 
+-- by whether core c has a transaction
 pub turn-on : (m : Machine) (c : ℕ) → coreAt m c .active ≡ true → turnAt m c ≡ turnOf m c (coreAt m c .ticket) (coreAt m c .aborts)
 turn-on m c on = simp on
 
 pub turn-off : (m : Machine) (c : ℕ) → coreAt m c .active ≡ false → turnAt m c ≡ true
 turn-off m c off = simp off (ap (λ (b : Bool). b && true && true) (one-each c (λ e. true) (λ e l. refl)))
 
+-- the rules so tested
 abbrev pub keptTurns : Machine → Bool
 keptTurns m = ticketsDiffer m && ticketsGiven m && abortsBounded m
 
@@ -150,11 +160,12 @@ unfolding ticketsDiffer ticketsGiven abortsBounded
 turns-kept m = gather 16 _ _ _ (gather 16 _ _ _ refl)
 
 -- a transaction that breaks them
-pub turn-fails : (m : Machine) (c : ℕ) → c < 16 → coreAt m c .active ≡ true → turnOf m c (coreAt m c .ticket) (coreAt m c .aborts) ≡ false
-    → false ≡ (keptTurns m && ticketsCounted m)
+pub turn-fails : (m : Machine) (c : ℕ) → c < 16 → coreAt m c .active ≡ true
+    → turnOf m c (coreAt m c .ticket) (coreAt m c .aborts) ≡ false → false ≡ (keptTurns m && ticketsCounted m)
 turn-fails m c l on e =
     ap (λ (b : Bool). b && ticketsCounted m) (each-fails 16 (turnAt m) c l (turn-on m c on ∙ e) ∙ turns-kept m)
 
+-- core c has a transaction in progress
 abbrev pub activeAt : Machine → ℕ → Bool
 activeAt m c = coreAt m c .active
 
@@ -181,6 +192,7 @@ ahead-few m t = tally-bounded 16 (aheadAt m t)
 
 -- ---- the record
 
+-- the four groups of rules are all of them
 pub sound-parts : (m : Machine) → (inRange m && tidyCores m && boundedVersions m && (keptTurns m && ticketsCounted m)) ≡ sound m
 sound-parts m = same-test _ (sound m) to from
   where
@@ -245,6 +257,7 @@ module _ (m : Machine) where
       → (a && b && c && d) ≡ sound m
   four a b c d = sym (ap₂ _&&_ (ap₂ _&&_ (ap₂ _&&_ a b) c) d) ∙ sound-parts m
 
+  -- by the first group that fails, or by the last
   pub out-of-range : inRange m ≡ false → false ≡ sound m
   out-of-range a = four a refl refl refl
 

@@ -18,12 +18,12 @@ pub fails : (b : Bool) → (b ≡ true → ⊥) → false ≡ b
 fails true h = absurd (h refl)
 fails false h = refl
 
--- two tests that pass together are one
+-- two tests that pass in the same cases are one
 pub same-test : (a b : Bool) → (a ≡ true → b ≡ true) → (b ≡ true → a ≡ true) → a ≡ b
 same-test true b h g = sym (h refl)
 same-test false b h g = fails b (λ e. true≢false (sym (g e)))
 
--- a test that a call made, and the branch on its answer
+-- a call answered a test, and control went past `if !answer` or into it
 pub holds : {r b : Bool} → r ≡ b → not r ≡ false → b ≡ true
 holds {r} e t = sym e ∙ not-false r t
 
@@ -35,7 +35,7 @@ and-true true = refl
 and-true false = refl
 
 pub some-number : (n : ℕ) → (n ≡ 0 → ⊥) → ltb 0 n ≡ true
-some-number n h = lt-ltb 0 n (omega (arith, h))
+some-number n h = lt-ltb 0 n (omega arith)
 
 -- ---- tests of each, one by one
 
@@ -56,34 +56,33 @@ each-more n f all here = ap (λ (x : ℕ). each x f) (add-one n) ∙ ap₂ _&&_ 
 pub each-all : (n i : ℕ) (f : ℕ → Bool) → n ≤ i → i ≤ n → each i f ≡ true → true ≡ each n f
 each-all n i f p q e = let s : i ≡ n = omega arith in sym (ap (λ (x : ℕ). each x f) (sym s) ∙ e)
 
--- two tests of each are two tests over all
 and-swap : (a b p q : Bool) → (a && b && (p && q)) ≡ (a && p && (b && q))
 and-swap true true p q = refl
 and-swap true false true q = refl
 and-swap true false false q = refl
 and-swap false b p q = refl
 
+-- two tests of each are two tests over all
 pub each-both : (n : ℕ) (f g : ℕ → Bool) → each n (λ i. f i && g i) ≡ (each n f && each n g)
 unfolding each
 each-both zero f g = refl
 each-both (suc n) f g = ap (λ (b : Bool). f n && g n && b) (each-both n f g) ∙ and-swap (f n) (g n) (each n f) (each n g)
 
+-- one more test of each, after those that a stands for
 pub gather : (n : ℕ) (f g : ℕ → Bool) (a : Bool) → each n f ≡ a → each n (λ i. f i && g i) ≡ (a && each n g)
 gather n f g a e = each-both n f g ∙ ap (λ (b : Bool). b && each n g) e
 
 -- ---- counts, one by one
 
--- one more is counted, or not
 pub tally-none : (f : ℕ → Bool) → _≡_ {A = ℕ} 0 (tally 0 f)
 unfolding tally
 tally-none f = refl
 
+-- one more is counted, or not
 pub tally-counts : (n i : ℕ) (f : ℕ → Bool) → n ≡ tally i f → f i ≡ true → n + 1 ≡ tally (i + 1) f
 unfolding tally
-tally-counts n i f e t =
-    sym (ap (λ (x : ℕ). tally x f) (add-one i) ∙ rw t (omega (arith, e)))
+tally-counts n i f e t = sym (ap (λ (x : ℕ). tally x f) (add-one i) ∙ rw t (omega arith))
 
 pub tally-skips : (n i : ℕ) (f : ℕ → Bool) → n ≡ tally i f → f i ≡ false → n ≡ tally (i + 1) f
 unfolding tally
-tally-skips n i f e t =
-    sym (ap (λ (x : ℕ). tally x f) (add-one i) ∙ rw t (omega (arith, e)))
+tally-skips n i f e t = sym (ap (λ (x : ℕ). tally x f) (add-one i) ∙ rw t (omega arith))
