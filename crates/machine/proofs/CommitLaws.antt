@@ -119,16 +119,18 @@ pub someone-ahead : (m : Machine) (c e : ℕ) → e < 16 → contender m c e ≡
 unfolding blocked
 someone-ahead m c e l p = one-some 16 (contender m c) e l p
 
-module _ (m : Machine) (s : sound m ≡ true) where
-  -- a core that the machine lacks holds nobody back
-  pub nobody-ahead : (c : ℕ) → ((e : ℕ) → e < m .cores → contender m c e ≡ false) → blocked m c ≡ false
-  unfolding blocked
-  nobody-ahead c h = none-some 16 (contender m c) (λ e l. go e l (ltb e (m .cores)) refl)
-    where
-      go : (e : ℕ) → e < 16 → (q : Bool) → ltb e (m .cores) ≡ q → contender m c e ≡ false
-      go e l true p = h e (ltb-true e (m .cores) p)
-      go e l false p = contender-idle m c e (stands m s .turns .lacked e l (ltb-false e (m .cores) p))
+-- a core that the machine lacks holds nobody back
+pub nobody-ahead : (m : Machine) (s : sound m ≡ true) (c : ℕ) → ((e : ℕ) → e < m .cores → contender m c e ≡ false) → blocked m c ≡ false
+unfolding blocked
+nobody-ahead m s c h = none-some 16 (contender m c) (λ e l. go e l (ltb e (m .cores)) refl)
+  where
+    go : (e : ℕ) → e < 16 → (q : Bool) → ltb e (m .cores) ≡ q → contender m c e ≡ false
+    go e l true p = h e (ltb-true e (m .cores) p)
+    go e l false p = contender-idle m c e (stands m s .turns .lacked e l (ltb-false e (m .cores) p))
 
+-- ---- what a sound record tells the functions that a commit calls
+
+module _ (m : Machine) (s : sound m ≡ true) where
   -- setbacks are fewer than cores
   pub few-aborts : (e : ℕ) → e < 16 → coreAt m e .aborts < 255
   few-aborts e l = go (coreAt m e .active) refl

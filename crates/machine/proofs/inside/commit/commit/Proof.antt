@@ -1,4 +1,5 @@
--- `machine::inside::commit::commit` meets its contract. Assumes nothing.
+-- `machine::inside::commit::commit` meets its contract: one law for each way that it can go. `asked` is the place where a
+-- transaction in progress that is not marked asks who is ahead of it. Assumes nothing.
 use mathlib.Core.Path.{_∙_}
 use Rattle.machine.specs.Answers.{named}
 use Rattle.machine.specs.Rule.{told}

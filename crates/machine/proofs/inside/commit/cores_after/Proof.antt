@@ -1,5 +1,5 @@
--- `machine::inside::commit::cores_after` meets its contract. After the turn of core e, the first e + 1 cores are as the commit leaves them.
--- Assumes nothing.
+-- `machine::inside::commit::cores_after` meets its contract. After the turn of core e, the first e + 1 cores are as the commit
+-- leaves them. Assumes nothing.
 use mathlib.Core.Path.{_≡_, refl, ap, _∙_}
 use mathlib.Core.Logic.{⊎-elim}
 use Prim.Native.Nat.{_+_, _-_, _≤_}

@@ -1,5 +1,5 @@
--- `machine::inside::commit::move_cards` meets its contract. After the turn of object d, the committed table holds the new values of the first d + 1.
--- Assumes nothing.
+-- `machine::inside::commit::move_cards` meets its contract. After the turn of object d, the committed table holds the new values
+-- of the first d + 1. Assumes nothing.
 use mathlib.Core.Path.{refl, sym, _∙_}
 use mathlib.Core.Logic.{⊎-elim}
 use Prim.Native.Nat.{ℕ, _+_, _-_, _≤_}
