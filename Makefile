@@ -1,6 +1,6 @@
 # Two commands: `make run` runs the main job, `make test` is the whole test.
 
-.PHONY: run test clean
+.PHONY: run test guards clean
 
 # The script program `cards` is not built yet; until then this says so.
 run:
@@ -11,6 +11,10 @@ run:
 
 test:
 	@tests/run.sh
+
+# the longer list of must-fail edits, outside the gate
+guards:
+	@tests/guards.sh
 
 clean:
 	rm -rf target build reference/target

@@ -3,6 +3,7 @@ use crate::Answer;
 use crate::Core;
 use crate::Machine;
 use crate::Outcome;
+use crate::inside::transaction::without_transaction;
 ghost use mathlib.Core.Path.{_≡_};
 ghost use mathlib.Core.Bool.{true, false, _&&_};
 ghost use Prim.Native.Nat.{ℕ, _+_, _*_, _≤_, _<_};
@@ -71,24 +72,6 @@ fn without_mark(k: Core) -> Core
     let mut told = k;
     told.zombie = false;
     told
-}
-
-// Core k with no transaction; its jobs stay.
-fn without_transaction(k: Core) -> Core
-    ensures { λ r. ⌜ r ≡ over k ⌝ }
-{
-    let jobs = k.jobs;
-    Core {
-        jobs,
-        count: k.count,
-        active: false,
-        owner: 0,
-        ticket: 0,
-        aborts: 0,
-        zombie: false,
-        reads: 0,
-        writes: 0,
-    }
 }
 
 // Core k after another's commit of the write set ws: a transaction whose data set meets ws is aborted and marked, with
