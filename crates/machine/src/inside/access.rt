@@ -63,13 +63,15 @@ pub fn read(m: Machine, core: u32, card: u32, committed: &[u32], pending: &[u32]
         let version = m.versions[d];
         if objset::contains(k.writes, d) {
             let at = slot(c, m.objects as usize, d);
+            let own = pending[at];
             Outcome {
-                answer: Answer::Value(pending[at], version),
+                answer: Answer::Value(own, version),
                 machine: n,
             }
         } else {
+            let shared = committed[d];
             Outcome {
-                answer: Answer::Value(committed[d], version),
+                answer: Answer::Value(shared, version),
                 machine: n,
             }
         }

@@ -94,22 +94,22 @@ slot-requires c κs =
       object-place _ (start .pre .is-sound) _ (else2 .if2 .left),
     )
 
-mul-t37 : tie.Need-mul-t37
-mul-t37 c = omega (arith, c .slot .ensures .1)
+mul-own : tie.Need-mul-own
+mul-own c = omega (arith, c .slot .ensures .1)
 
-shared-slice-read-t39 : tie.Need-shared-slice-read-t39
-shared-slice-read-t39 c =
+shared-slice-read-own : tie.Need-shared-slice-read-own
+shared-slice-read-own c =
     let then3 = c .before .before .before .before .before .before .before in
     let else2 = then3 .before .before in
     let else1 = else2 .before in
     let start = else1 .before .before .before in
     rw (c .before .slot .ensures .0, start .pre .pending-long) (slot-inside _ _ _ _ (else1 .if1 .left) (else2 .if2 .left))
 
-mul-t42 : tie.Need-mul-t42
-mul-t42 c = search needs
+mul-shared : tie.Need-mul-shared
+mul-shared c = search needs
 
-shared-slice-read-t44 : tie.Need-shared-slice-read-t44
-shared-slice-read-t44 c = search needs
+shared-slice-read-shared : tie.Need-shared-slice-read-shared
+shared-slice-read-shared c = search needs
 
 returns-4 : tie.Need-returns-4
 returns-4 c =
@@ -164,10 +164,10 @@ read-spec =
     contains-requires
     cast-slot
     slot-requires
-    mul-t37
-    shared-slice-read-t39
-    mul-t42
-    shared-slice-read-t44
+    mul-own
+    shared-slice-read-own
+    mul-shared
+    shared-slice-read-shared
     returns-4
     returns-5
     returns-6)
