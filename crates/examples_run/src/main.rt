@@ -248,7 +248,8 @@ fn play(
     match row {
         Row::Call(call) => {
             let out = make(machine, call, committed, pending);
-            show(out.answer);
+            let answer = out.answer;
+            show(answer);
             out.machine
         }
         Row::Heading(letter) => {
@@ -266,16 +267,11 @@ fn play(
     }
 }
 
-// Makes a call, lending the first words of each table: as many as the machine has, or as setup asks for.
-fn make(
-    machine: Machine,
-    call: Call,
-    committed: &mut [u32; 64],
-    pending: &mut [u32; 1024],
-) -> Outcome {
+// Makes a call, lending the first words of each table: as many as the machine has, or as setup asks for, or all there are.
+fn make(machine: Machine, call: Call, committed: &mut [u32], pending: &mut [u32]) -> Outcome {
     let n = lent(machine, call);
-    let cards = n.cards;
-    let words = n.words;
+    let cards = least(n.cards, committed.len());
+    let words = least(n.words, pending.len());
     run(
         machine,
         call,
@@ -284,33 +280,25 @@ fn make(
     )
 }
 
-fn lent(machine: Machine, call: Call) -> Sizes
-    ensures cards { λ r. ⌜ r .cards ≤ 64 ⌝ }
-    ensures words { λ r. ⌜ r .words ≤ 1024 ⌝ }
-{
+fn lent(machine: Machine, call: Call) -> Sizes {
     if let Call::Setup { cores, cards } = call {
-        sizes(cores, cards)
+        sizes_for(cores, cards)
     } else {
-        sizes(machine.cores as u32, machine.objects as u32)
+        sizes_for(machine.cores as u32, machine.objects as u32)
     }
 }
 
-// The sizes of the tables, or all there is where no machine is that large.
-fn sizes(cores: u32, cards: u32) -> Sizes
-    ensures cards { λ r. ⌜ r .cards ≤ 64 ⌝ }
-    ensures words { λ r. ⌜ r .words ≤ 1024 ⌝ }
-{
-    if 16 < cores || 64 < cards {
-        Sizes {
-            cards: 64,
-            words: 1024,
-        }
-    } else {
-        Sizes {
-            cards: cards as usize,
-            words: cores as usize * cards as usize,
-        }
+fn sizes_for(cores: u32, cards: u32) -> Sizes {
+    Sizes {
+        cards: cards as usize,
+        words: cores as usize * cards as usize,
     }
+}
+
+fn least(a: usize, b: usize) -> usize
+    ensures { λ r. ⌜ (r ≤ a) × (r ≤ b) ⌝ }
+{
+    if a < b { a } else { b }
 }
 
 fn run(machine: Machine, call: Call, committed: &mut [u32], pending: &mut [u32]) -> Outcome {
@@ -358,16 +346,20 @@ fn heading(letter: u32) {
 }
 
 // Writes the machine's committed values.
-fn show_cards(machine: Machine, committed: &[u32; 64]) {
+fn show_cards(machine: Machine, committed: &[u32]) {
+    let n = least(machine.objects as usize, committed.len());
     write(b"cards");
-    let n = machine.objects as usize;
-    for i in 0..64 {
-        if i < n {
-            write(b" ");
-            write_number(committed[i]);
-        }
-    }
+    write_numbers(&committed[..n]);
     write(b"\n");
+}
+
+fn write_numbers(values: &[u32]) {
+    let mut i = 0;
+    while i < values.len() {
+        write(b" ");
+        write_number(values[i]);
+        i += 1;
+    }
 }
 
 fn write_with(word: &[u8], value: u32) {
