@@ -1,0 +1,66 @@
+-- `examples_run::main`: the loop plays each row once. Assumes nothing.
+use Prim.Native.Nat.{_≤_, _-_}
+use borrow.Author.Needs.{needs}
+use Rattle.examples_run.proofs.main.Statement.{statement}
+use Rattle.examples_run.proofs.main.Tie as tie
+
+abbrev Inv-loop : tie.InvT-loop
+Inv-loop committed₀ pending₀ machine₀ i₀ committed pending machine i = i ≤ 107
+
+abbrev μ-loop : tie.MeasureT-loop
+μ-loop committed₀ pending₀ machine₀ i₀ committed pending machine i = 107 - i
+
+slice-aggregate-setup : tie.Need-slice-aggregate-setup Inv-loop μ-loop
+slice-aggregate-setup c = search needs
+
+slice-aggregate-setup-2 : tie.Need-slice-aggregate-setup-2 Inv-loop μ-loop
+slice-aggregate-setup-2 c = search needs
+
+setup-requires : tie.Need-setup-requires Inv-loop μ-loop
+setup-requires c κs = search needs
+
+loop-holds : tie.Need-loop-holds Inv-loop μ-loop
+loop-holds c = search needs
+
+mul-decode : tie.Need-mul-decode Inv-loop μ-loop
+mul-decode c = search needs
+
+array-copy-out-decode : tie.Need-array-copy-out-decode Inv-loop μ-loop
+array-copy-out-decode c = search needs
+
+decode-requires : tie.Need-decode-requires Inv-loop μ-loop
+decode-requires c κs = search needs
+
+play-requires : tie.Need-play-requires Inv-loop μ-loop
+play-requires c κs = search needs
+
+add-i : tie.Need-add-i Inv-loop μ-loop
+add-i c = search needs
+
+loop-less : tie.Need-loop-less Inv-loop μ-loop
+loop-less c = search needs
+
+loop-again : tie.Need-loop-again Inv-loop μ-loop
+loop-again c = search needs
+
+returns : tie.Need-returns Inv-loop μ-loop
+returns c = search needs
+
+pub main-spec : {M : Type 1} → statement M
+main-spec =
+    tie.close
+    (tie.spec
+    Inv-loop
+    μ-loop
+    slice-aggregate-setup
+    slice-aggregate-setup-2
+    setup-requires
+    loop-holds
+    mul-decode
+    array-copy-out-decode
+    decode-requires
+    play-requires
+    add-i
+    loop-less
+    loop-again
+    returns)
