@@ -12,14 +12,23 @@ ghost use Rattle.machine.proofs.Sound.Keeps.{Good};
 
 // The calls of a list, beside SAVE, which keeps the record, and RESTORE, which goes back to the one kept.
 const SAVE: u32 = 0;
+
 const RESTORE: u32 = 1;
+
 const SETUP: u32 = 2;
+
 const RELEASE: u32 = 3;
+
 const BEGIN: u32 = 4;
+
 const READ: u32 = 5;
+
 const WRITE: u32 = 6;
+
 const COMMIT: u32 = 7;
+
 const GIVE_UP: u32 = 8;
+
 const FINISH: u32 = 9;
 
 // A number for an answer.
@@ -56,7 +65,13 @@ fn tested(m: Machine) -> Outcome {
 }
 
 // One public call; any other number, the soundness test alone.
-fn door_step(m: Machine, call: u32, core: u32, committed: &mut [u32], pending: &mut [u32]) -> Outcome {
+fn door_step(
+    m: Machine,
+    call: u32,
+    core: u32,
+    committed: &mut [u32],
+    pending: &mut [u32],
+) -> Outcome {
     if call == SETUP {
         return Machine::setup(m.cores as u32, m.objects as u32, committed, pending);
     }
@@ -85,7 +100,13 @@ fn door_step(m: Machine, call: u32, core: u32, committed: &mut [u32], pending: &
 }
 
 // One call by its inside function; any other number changes nothing.
-fn inside_step(m: Machine, call: u32, core: u32, committed: &mut [u32], pending: &mut [u32]) -> Outcome
+fn inside_step(
+    m: Machine,
+    call: u32,
+    core: u32,
+    committed: &mut [u32],
+    pending: &mut [u32],
+) -> Outcome
     requires { ⌜ Good (lent m (now committed) (now pending)) ⌝ }
     ensures { λ r. ⌜ Good (lent (r .machine) (now (committed .exit)) (now (pending .exit))) ⌝ }
 {

@@ -22,7 +22,6 @@ Inv-loop list committed₀ pending₀ m₀ kept₀ last₀ i₀ committed pendin
 abbrev μ-loop : tie.MeasureT-loop
 μ-loop list committed₀ pending₀ m₀ kept₀ last₀ i₀ committed pending m kept last i = length list - i
 
-
 loop-holds : tie.Need-loop-holds Inv-loop μ-loop
 loop-holds c = search needs
 
@@ -60,7 +59,12 @@ loop-less-3 : tie.Need-loop-less-3 Inv-loop μ-loop
 loop-less-3 c = search needs
 
 loop-again-3 : tie.Need-loop-again-3 Inv-loop μ-loop
-loop-again-3 c = search needs
+loop-again-3 c =
+    let done = c .before .before .before .before .before in
+    let inv = done .before .before .before .before .before .before .before .before .loop .inv in
+    let cs = done .inside-step .kept .1 .1 .1 .0 in
+    let ps = done .inside-step .kept .1 .1 .1 .1 .0 in
+    (search needs, cs ∙ inv .1, ps ∙ inv .2, done .inside-step .ensures, same-lengths _ _ _ _ _ (inv .4) cs ps)
 
 number-of-requires : tie.Need-number-of-requires Inv-loop μ-loop
 number-of-requires c κs = search needs
