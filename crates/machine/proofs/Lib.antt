@@ -16,3 +16,4 @@ pub mod CanFollow
 pub mod Binds
 pub mod Sound
 pub mod Run
+pub mod InsideLaws

@@ -1,0 +1,1 @@
+-- No definition of its own: the contracts cite the machine's. Assumes nothing.

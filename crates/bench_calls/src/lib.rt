@@ -1,0 +1,212 @@
+// Lists of calls on one machine, run through the public calls and through the inside functions, for bench/. A list is numbers: the
+// lower four bits say what is done, the rest is the core. Assumes nothing.
+use machine::Answer;
+use machine::Machine;
+use machine::Outcome;
+use machine::inside::access;
+use machine::inside::commit;
+use machine::inside::jobs;
+use machine::inside::transaction;
+ghost use Rattle.machine.specs.Rule.{lent};
+ghost use Rattle.machine.proofs.Sound.Keeps.{Good};
+
+// The calls of a list, beside SAVE, which keeps the record, and RESTORE, which goes back to the one kept.
+const SAVE: u32 = 0;
+
+const RESTORE: u32 = 1;
+
+const SETUP: u32 = 2;
+
+const RELEASE: u32 = 3;
+
+const BEGIN: u32 = 4;
+
+const READ: u32 = 5;
+
+const WRITE: u32 = 6;
+
+const COMMIT: u32 = 7;
+
+const GIVE_UP: u32 = 8;
+
+const FINISH: u32 = 9;
+
+// A number for an answer.
+fn number_of(answer: Answer) -> u32 {
+    match answer {
+        Answer::Ready => 1,
+        Answer::Running => 2,
+        Answer::Queued => 3,
+        Answer::Begun(ticket) => ticket,
+        Answer::Value(value, _) => value,
+        Answer::Written => 4,
+        Answer::Waits(_) => 5,
+        Answer::Committed(_) => 6,
+        Answer::SetBack => 7,
+        Answer::Ended => 8,
+        Answer::Finished(_) => 9,
+        Answer::Refused(_) => 10,
+    }
+}
+
+// The record as it is, tested.
+fn tested(m: Machine) -> Outcome {
+    if m.sound() {
+        Outcome {
+            answer: Answer::Ready,
+            machine: m,
+        }
+    } else {
+        Outcome {
+            answer: Answer::Refused(2),
+            machine: m,
+        }
+    }
+}
+
+// One public call; any other number, the soundness test alone.
+fn door_step(
+    m: Machine,
+    call: u32,
+    core: u32,
+    committed: &mut [u32],
+    pending: &mut [u32],
+) -> Outcome {
+    if call == SETUP {
+        return Machine::setup(m.cores as u32, m.objects as u32, committed, pending);
+    }
+    if call == RELEASE {
+        return m.release(core, 7, 100);
+    }
+    if call == BEGIN {
+        return m.begin(core);
+    }
+    if call == READ {
+        return m.read(core, core / 2 + 32, committed, pending);
+    }
+    if call == WRITE {
+        return m.write(core, core, 5, committed, pending);
+    }
+    if call == COMMIT {
+        return m.commit(core, committed, pending);
+    }
+    if call == GIVE_UP {
+        return m.give_up(core);
+    }
+    if call == FINISH {
+        return m.finish(core);
+    }
+    tested(m)
+}
+
+// One call by its inside function; any other number changes nothing.
+fn inside_step(
+    m: Machine,
+    call: u32,
+    core: u32,
+    committed: &mut [u32],
+    pending: &mut [u32],
+) -> Outcome
+    requires { ⌜ Good (lent m (now committed) (now pending)) ⌝ }
+    ensures { λ r. ⌜ Good (lent (r .machine) (now (committed .exit)) (now (pending .exit))) ⌝ }
+{
+    if call == RELEASE {
+        return jobs::release(m, core, 7, 100);
+    }
+    if call == BEGIN {
+        return transaction::begin(m, core);
+    }
+    if call == READ {
+        return access::read(m, core, core / 2 + 32, committed, pending);
+    }
+    if call == WRITE {
+        return access::write(m, core, core, 5, committed, pending);
+    }
+    if call == COMMIT {
+        return commit::commit(m, core, committed, pending);
+    }
+    if call == GIVE_UP {
+        return transaction::give_up(m, core);
+    }
+    if call == FINISH {
+        return jobs::finish(m, core);
+    }
+    Outcome {
+        answer: Answer::Ready,
+        machine: m,
+    }
+}
+
+// Runs the list through the public calls on a new machine of that many cores and cards; a number for the last answer.
+#[no_mangle]
+pub extern "C" fn bench_calls_door(
+    cores: u32,
+    cards: u32,
+    list: &[u32],
+    committed: &mut [u32],
+    pending: &mut [u32],
+) -> u32 {
+    let o = Machine::setup(cores, cards, committed, pending);
+    let mut m = o.machine;
+    let mut kept = m;
+    let mut last = o.answer;
+    let mut i = 0;
+    while i < list.len() {
+        let call = list[i] % 16;
+        let core = list[i] / 16;
+        i += 1;
+        if call == SAVE {
+            kept = m;
+        } else if call == RESTORE {
+            m = kept;
+        } else {
+            let step = door_step(m, call, core, committed, pending);
+            m = step.machine;
+            last = step.answer;
+        }
+    }
+    number_of(last)
+}
+
+// Runs the list through the inside functions on a good world; a number for the last answer.
+fn inside_run(first: Machine, list: &[u32], committed: &mut [u32], pending: &mut [u32]) -> u32
+    requires { ⌜ Good (lent first (now committed) (now pending)) ⌝ }
+{
+    let mut m = first;
+    let mut kept = first;
+    let mut last = Answer::Ready;
+    let mut i = 0;
+    while i < list.len() {
+        let call = list[i] % 16;
+        let core = list[i] / 16;
+        i += 1;
+        if call == SAVE {
+            kept = m;
+        } else if call == RESTORE {
+            m = kept;
+        } else {
+            let step = inside_step(m, call, core, committed, pending);
+            m = step.machine;
+            last = step.answer;
+        }
+    }
+    number_of(last)
+}
+
+// Runs the list through the inside functions on a new machine of that many cores and cards; a number for the last answer.
+#[no_mangle]
+pub extern "C" fn bench_calls_inside(
+    cores: u32,
+    cards: u32,
+    list: &[u32],
+    committed: &mut [u32],
+    pending: &mut [u32],
+) -> u32 {
+    let o = Machine::setup(cores, cards, committed, pending);
+    let answer = o.answer;
+    if let Answer::Ready = answer {
+        inside_run(o.machine, list, committed, pending)
+    } else {
+        number_of(answer)
+    }
+}
