@@ -1,15 +1,16 @@
 // calls WHICH CORES CALL COUNT: makes one call COUNT times on a machine of CORES cores and 64 cards at work, and prints a number for
 // the last answer. WHICH is door, inside or reference. Before each call the same record is put back, so that each starts from the
-// same one; the call `none` puts it back alone. Each core has four jobs; each but core 0 has a transaction that read one card
-// and wrote one, and so has core 0 for the calls that need one. Every call is core 0's.
+// same one; the call `none` puts it back alone, and `test` and `test-idle` make the soundness test, with a transaction on core 0
+// and without. Each core has four jobs; each but core 0 has a transaction that read one card and wrote one, and so has core 0 for
+// the calls that need one. Every call is core 0's.
 #include <stdint.h>
 #include <stdio.h>
 #include <stdlib.h>
 #include <string.h>
 
-enum { SAVE, RESTORE, SETUP, RELEASE, BEGIN, READ, WRITE, COMMIT, GIVE_UP, FINISH, TEST, CALLS };
+enum { SAVE, RESTORE, SETUP, RELEASE, BEGIN, READ, WRITE, COMMIT, GIVE_UP, FINISH, TEST, TEST_IDLE, CALLS };
 static const char *const names[CALLS] = {"save",   "none",    "setup",  "release", "begin", "read",
-                                         "write",  "commit",  "give-up", "finish",  "test"};
+                                         "write",  "commit",  "give-up", "finish",  "test",  "test-idle"};
 
 typedef uint32_t entry(uint32_t cores, uint32_t cards, const uint32_t *list, size_t list_len, uint32_t *committed, size_t committed_len,
                        uint32_t *pending, size_t pending_len);
@@ -25,7 +26,7 @@ int main(int argc, char **argv) {
   uint32_t call = 0;
   while (call < CALLS && strcmp(argv[3], names[call])) call++;
   if (call == CALLS || cores < 1 || 16 < cores) return fprintf(stderr, "calls: no such call or cores\n"), 2;
-  int open = call != RELEASE && call != BEGIN && call != FINISH;
+  int open = call != RELEASE && call != BEGIN && call != FINISH && call != TEST_IDLE;
 
   uint32_t *list = malloc((16 * 8 + 2 * count + 1) * sizeof *list);
   if (!list) return 2;
