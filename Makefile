@@ -1,6 +1,6 @@
 # Two commands: `make run` runs the main job, `make test` is the whole test.
 
-.PHONY: run test guards clean
+.PHONY: run test guards bench clean
 
 # The script program `cards` is not built yet; until then this says so.
 run:
@@ -16,5 +16,9 @@ test:
 guards:
 	@tests/guards.sh
 
+# the tables of docs/BENCHMARKS.md
+bench:
+	@bench/calls.sh
+
 clean:
-	rm -rf target build reference/target
+	rm -rf target build reference/target bench/reference/target
