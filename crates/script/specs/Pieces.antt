@@ -1,0 +1,33 @@
+-- A list of bytes cut at a byte, and the lines of a script. Assumes nothing.
+use Prim.Native.Nat.{ℕ}
+use mathlib.Core.Bool.{Bool, true, false, cond, _&&_}
+use mathlib.Core.List.{List, [], _∷_}
+use lib.Dec.{eqb}
+
+-- a byte in front of the first piece
+unfoldable pub onto : ℕ → List (List ℕ) → List (List ℕ)
+onto b [] = (b ∷ []) ∷ []
+onto b (p ∷ ps) = (b ∷ p) ∷ ps
+
+-- the pieces of a list before, between and after the places of the byte `at`: one piece more than there are such places
+unfoldable pub pieces : ℕ → List ℕ → List (List ℕ)
+pieces at [] = [] ∷ []
+pieces at (b ∷ bs) = cond (eqb b at) ([] ∷ pieces at bs) (onto b (pieces at bs))
+
+-- without a last piece that has no byte
+unfoldable pub ended : List (List ℕ) → List (List ℕ)
+ended [] = []
+ended ([] ∷ []) = []
+ended ((b ∷ bs) ∷ []) = (b ∷ bs) ∷ []
+ended (p ∷ q ∷ ps) = p ∷ ended (q ∷ ps)
+
+-- the lines of a script, without their newlines (byte 10); the last newline may be missing
+unfoldable pub lines : List ℕ → List (List ℕ)
+lines script = ended (pieces 10 script)
+
+-- whether two lists of bytes are the same
+unfoldable pub same : List ℕ → List ℕ → Bool
+same [] [] = true
+same [] (y ∷ ys) = false
+same (x ∷ xs) [] = false
+same (x ∷ xs) (y ∷ ys) = eqb x y && same xs ys
