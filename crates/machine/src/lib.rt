@@ -91,7 +91,7 @@ pub struct Outcome {
 }
 
 // Whether there may be that many cores and cards.
-fn in_range(cores: u32, cards: u32) -> bool
+pub fn in_range(cores: u32, cards: u32) -> bool
     ensures { λ r. ⌜ r ≡ (ltb 0 cores && leb cores 16 && ltb 0 cards && leb cards 64) ⌝ }
 {
     if cores < 1 {

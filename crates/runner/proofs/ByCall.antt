@@ -1,0 +1,128 @@
+-- Each call of a script, by the promise of the function that runs it. Assumes nothing.
+use mathlib.Core.Path.{_≡_, refl, sym, ap, subst, _∙_}
+use mathlib.Core.Logic.{inl, ⊎-elim}
+use mathlib.Core.Bool.{Bool, true, false, not, true≢false}
+use mathlib.Core.List.{List, [], _∷_, _++_}
+use Prim.Native.Nat.{ℕ, _*_, _≤_}
+use lib.ListN.{length, take, drop, take-append-drop}
+use types.Run.{OneOf, miss}
+use denote.Enum.Declared.{tagOf}
+use Rattle.machine.specs.Record.{blank}
+use Rattle.machine.specs.Rule as Rule
+use Rattle.machine.specs.Rule.{World, Result, lent, left, release, begin, read, write, commit, giveUp, finish, contender}
+use Rattle.machine.specs.Answers.{named}
+use Rattle.machine.specs.Sound as Sound
+use Rattle.machine.specs.declared.Machine.{Machine}
+use Rattle.machine.specs.declared.Outcome.{Outcome}
+use Rattle.machine.specs.declared.Answer.the-variants.{Waits, Refused}
+use Rattle.machine.proofs.Binds.{release-follows, begin-follows, read-follows, write-follows, commit-follows, give-up-follows, finish-follows}
+use Rattle.machine.proofs.Sound.Keeps.{Good}
+use Rattle.script.specs.declared.Call.{Call}
+use Rattle.script.specs.declared.Call.the-variants as Call
+use Rattle.script.proofs.Call as CallType
+use Rattle.listing.specs.Text.{said}
+use Rattle.runner.specs.Kept.{held, Held}
+use Rattle.runner.specs.Listing.{called, setUp, nothing}
+use Rattle.runner.proofs.Setups as Setups
+use Rattle.runner.proofs.Acts.{Done, acted, acted-alone}
+
+-- a script's call is the rule's
+abbrev ByCall : Machine → List ℕ → List ℕ → Call → Outcome → List ℕ → List ℕ → Type 0
+ByCall m cs ps call r cs′ ps′ = Done (held m cs ps) (called (held m cs ps) call) r cs′ ps′
+
+module _ (m : Machine) (cs ps : List ℕ) (call : Call) (r : Outcome) (cs′ ps′ : List ℕ) where
+  pub setup-done : (cores cards : ℕ) → call ≡ Call.Setup cores cards → Setups.Done cores cards r cs′ ps′ → ByCall m cs ps call r cs′ ps′
+  unfolding called
+  setup-done cores cards e d = subst (λ (x : Call). ByCall m cs ps x r cs′ ps′) (sym e) (ap said (d .0), d .1)
+
+module _ (m : Machine) (cs ps : List ℕ) (g : Good (held m cs ps)) (cl : length cs ≡ 64) (pl : length ps ≡ 1024) (call : Call) (r : Outcome) where
+  abbrev dl : ℕ
+  dl = m .objects
+
+  abbrev nl : ℕ
+  nl = m .cores * m .objects
+
+  pub release-done : (c number deadline : ℕ) → call ≡ Call.Release c number deadline → r ≡ release m c number deadline → ByCall m cs ps call r cs ps
+  unfolding called
+  release-done c number deadline e p =
+      subst (λ (x : Call). ByCall m cs ps x r cs ps) (sym e)
+      (acted-alone m cs ps g cl pl (Rule.Release c number deadline) r (release-follows m (take dl cs) (take nl ps) r c number deadline p))
+
+  pub begin-done : (c : ℕ) → call ≡ Call.Begin c → r ≡ begin m c → ByCall m cs ps call r cs ps
+  unfolding called
+  begin-done c e p =
+      subst (λ (x : Call). ByCall m cs ps x r cs ps) (sym e)
+      (acted-alone m cs ps g cl pl (Rule.Begin c) r (begin-follows m (take dl cs) (take nl ps) r c p))
+
+  pub give-up-done : (c : ℕ) → call ≡ Call.GiveUp c → r ≡ giveUp m c → ByCall m cs ps call r cs ps
+  unfolding called
+  give-up-done c e p =
+      subst (λ (x : Call). ByCall m cs ps x r cs ps) (sym e)
+      (acted-alone m cs ps g cl pl (Rule.GiveUp c) r (give-up-follows m (take dl cs) (take nl ps) r c p))
+
+  pub finish-done : (c : ℕ) → call ≡ Call.Finish c → r ≡ finish m c → ByCall m cs ps call r cs ps
+  unfolding called
+  finish-done c e p =
+      subst (λ (x : Call). ByCall m cs ps x r cs ps) (sym e)
+      (acted-alone m cs ps g cl pl (Rule.Finish c) r (finish-follows m (take dl cs) (take nl ps) r c p))
+
+  pub read-done : (c d : ℕ) → call ≡ Call.Read c d → left r (take dl cs) (take nl ps) ≡ read (held m cs ps) c d → ByCall m cs ps call r cs ps
+  unfolding called
+  read-done c d e p =
+      subst (λ (x : Call). ByCall m cs ps x r cs ps) (sym e)
+      (acted-alone m cs ps g cl pl (Rule.Read c d) r (read-follows m (take dl cs) (take nl ps) r (take dl cs) (take nl ps) c d p))
+
+  pub write-done : (c d v : ℕ) (ps′ : List ℕ) → call ≡ Call.Write c d v → length ps′ ≡ length (take nl ps)
+      → left r (take dl cs) ps′ ≡ write (held m cs ps) c d v → ByCall m cs ps call r cs (ps′ ++ drop nl ps)
+  unfolding called
+  write-done c d v ps′ e l p =
+      subst (λ (x : Call). ByCall m cs ps x r cs (ps′ ++ drop nl ps)) (sym e)
+      (subst (λ (x : List ℕ). ByCall m cs ps (Call.Write c d v) r x (ps′ ++ drop nl ps)) (take-append-drop dl cs)
+      (acted m cs ps g cl pl (Rule.Write c d v) r (take dl cs) ps′ refl l
+      (write-follows m (take dl cs) (take nl ps) r (take dl cs) ps′ c d v p)))
+
+  pub commit-done : (c : ℕ) (cs′ ps′ : List ℕ) → call ≡ Call.Commit c → length cs′ ≡ length (take dl cs) → length ps′ ≡ length (take nl ps)
+      → left r cs′ ps′ ≡ commit (named (r .answer)) (held m cs ps) c → ((e : ℕ) → r .answer ≡ Waits e → contender m c e ≡ true)
+      → ByCall m cs ps call r (cs′ ++ drop dl cs) (ps′ ++ drop nl ps)
+  unfolding called
+  commit-done c cs′ ps′ e k l p waits =
+      subst (λ (x : Call). ByCall m cs ps x r (cs′ ++ drop dl cs) (ps′ ++ drop nl ps)) (sym e)
+      (acted m cs ps g cl pl (Rule.Commit c) r cs′ ps′ k l (commit-follows m (take dl cs) (take nl ps) r cs′ ps′ c p waits))
+
+-- ---- a blank record
+
+unsound-unless : (b : Bool) → b ≡ false → (m : Machine) (xs : List (Bool × ℕ)) (o : Outcome)
+    → Rule.unless (Rule.first ((not b, 2) ∷ xs)) m o ≡ record { answer = Refused 2; machine = m }
+unsound-unless true e m xs o = absurd (true≢false e)
+unsound-unless false e m xs o = unfold Rule.first Rule.unless in refl
+
+unsound-unless-lent : (b : Bool) → b ≡ false → (w : World) (xs : List (Bool × ℕ)) (o : Result)
+    → Rule.unlessLent (Rule.first ((not b, 2) ∷ xs)) w o ≡ record { answer = Refused 2; world = w }
+unsound-unless-lent true e w xs o = absurd (true≢false e)
+unsound-unless-lent false e w xs o = unfold Rule.first Rule.unlessLent in refl
+
+blank-unsound : Sound.sound blank ≡ false
+unfolding Sound.sound Sound.inRange
+blank-unsound = refl
+
+-- what a blank record answers to any call but setup, the first of the enum
+blank-called : (call : Call) → OneOf (1 ∷ 2 ∷ 3 ∷ 4 ∷ 5 ∷ 6 ∷ 7 ∷ []) (tagOf CallType.the-type call)
+    → called nothing call ≡ record { answer = Refused 2; world = nothing }
+unfolding called Rule.rule Rule.release Rule.begin Rule.read Rule.write Rule.commit Rule.giveUp Rule.finish Rule.accessRefusal Rule.commitRefusal
+blank-called (Call.Setup n d) h = absurd (miss (1 ∷ 2 ∷ 3 ∷ 4 ∷ 5 ∷ 6 ∷ 7 ∷ []) 0 tt h)
+blank-called (Call.Release c number deadline) h = ap (Rule.unlent nothing) (unsound-unless (Sound.sound blank) blank-unsound blank _ _)
+blank-called (Call.Begin c) h = ap (Rule.unlent nothing) (unsound-unless (Sound.sound blank) blank-unsound blank _ _)
+blank-called (Call.Read c d) h = unsound-unless-lent (Sound.sound blank) blank-unsound nothing _ _
+blank-called (Call.Write c d v) h = unsound-unless-lent (Sound.sound blank) blank-unsound nothing _ _
+blank-called (Call.Commit c) h = unsound-unless-lent (Sound.sound blank) blank-unsound nothing _ _
+blank-called (Call.GiveUp c) h = ap (Rule.unlent nothing) (unsound-unless (Sound.sound blank) blank-unsound blank _ _)
+blank-called (Call.Finish c) h = ap (Rule.unlent nothing) (unsound-unless (Sound.sound blank) blank-unsound blank _ _)
+
+pub first-refused : (m : Machine) (cs ps : List ℕ) (call : Call) → m ≡ blank → length cs ≡ 64 → length ps ≡ 1024
+    → OneOf (1 ∷ 2 ∷ 3 ∷ 4 ∷ 5 ∷ 6 ∷ 7 ∷ []) (tagOf CallType.the-type call)
+    → ByCall m cs ps call (record { answer = Refused 2; machine = m }) cs ps
+first-refused m cs ps call e cl pl h =
+    subst (λ (x : Machine). ByCall x cs ps call (record { answer = Refused 2; machine = x }) cs ps) (sym e) (
+      ap (λ (x : Result). said (x .answer)) (sym (blank-called call h)),
+      (ap (λ (x : Result). x .world) (sym (blank-called call h)), record { committed-long = cl; pending-long = pl; blank-or-good = inl refl }),
+    )

@@ -1,0 +1,5 @@
+-- The facts that the functions' proofs rest on. Assumes nothing.
+mod Setups
+mod Acts
+mod Sizes
+mod ByCall

@@ -1,0 +1,77 @@
+-- The listing of any list of bytes (document 01, 'Script and listing'). Assumes nothing.
+use Prim.Native.Nat.{ℕ, suc, _*_}
+use mathlib.Core.Bool.{Bool, cond, _&&_}
+use mathlib.Core.List.{List, [], _∷_, _++_}
+use lib.Dec.{ltb, leb}
+use lib.ListN.{replicate}
+use Rattle.machine.specs.Record.{blank}
+use Rattle.machine.specs.Rule as Rule
+use Rattle.machine.specs.Rule.{World, Result, lent, rule}
+use Rattle.machine.specs.declared.Answer.the-variants.{Refused}
+use Rattle.script.specs.declared.Call.{Call}
+use Rattle.script.specs.declared.Call.the-variants as Call
+use Rattle.script.specs.declared.Line.{Line}
+use Rattle.script.specs.declared.Line.the-variants.{Spells, Malformed}
+use Rattle.script.specs.declared.Columns.{Columns}
+use Rattle.script.specs.declared.Names.{Names}
+use Rattle.script.specs.declared.Names.the-variants as Names
+use Rattle.script.specs.Pieces.{lines}
+use Rattle.script.specs.Line.{names, spells}
+use Rattle.listing.specs.Text.{heading, line}
+
+-- ---- what a line does
+
+-- before the first setup, and after a refused one, the record is blank
+abbrev pub nothing : World
+nothing = lent blank [] []
+
+abbrev pub inRange : ℕ → ℕ → Bool
+inRange cores cards = ltb 0 cores && leb cores 16 && ltb 0 cards && leb cards 64
+
+-- setup is lent tables of the right length; out of range there are none, and it is refused whatever it is lent
+unfoldable pub setUp : ℕ → ℕ → Result
+setUp cores cards =
+    cond (inRange cores cards) (Rule.setup cores cards (replicate cards 0) (replicate (cores * cards) 0)) (Rule.setup cores cards [] [])
+
+-- a call by its rule; a listing does not show the core that waits names, here 0
+unfoldable pub called : World → Call → Result
+called w (Call.Setup cores cards) = setUp cores cards
+called w (Call.Release c number deadline) = rule 0 w (Rule.Release c number deadline)
+called w (Call.Begin c) = rule 0 w (Rule.Begin c)
+called w (Call.Read c d) = rule 0 w (Rule.Read c d)
+called w (Call.Write c d v) = rule 0 w (Rule.Write c d v)
+called w (Call.Commit c) = rule 0 w (Rule.Commit c)
+called w (Call.GiveUp c) = rule 0 w (Rule.GiveUp c)
+called w (Call.Finish c) = rule 0 w (Rule.Finish c)
+
+-- a line that is not a call yields refusal 11
+unfoldable pub answered : World → Line → Result
+answered w (Spells call) = called w call
+answered w Malformed = record { answer = Refused 11; world = w }
+
+-- ---- the listing
+
+-- how many lines are read, the line of names among them
+abbrev pub mostLines : ℕ
+mostLines = 1000000
+
+-- what is listed of these lines, the first of them with the number n: each gets its answer and the next line is read; line 1,000,001
+-- is refused 11 and ends the run
+unfoldable pub listed : Columns → World → ℕ → List (List ℕ) → List ℕ
+listed at w n [] = []
+listed at w n (l ∷ ls) =
+    cond (ltb mostLines n) (line n (Refused 11))
+    (line n (answered w (spells at l) .answer) ++ listed at (answered w (spells at l) .world) (suc n) ls)
+
+-- a bad names line gives `1 refused 11`, and nothing is read after it
+unfoldable pub named : Names → List (List ℕ) → List ℕ
+named (Names.Order at) ls = listed at nothing 2 ls
+named Names.Malformed ls = line 1 (Refused 11)
+
+-- so does empty input
+unfoldable pub body : List (List ℕ) → List ℕ
+body [] = line 1 (Refused 11)
+body (l ∷ ls) = named (names l) ls
+
+unfoldable pub listing : List ℕ → List ℕ
+listing script = heading ++ body (lines script)
