@@ -1,1 +1,2 @@
--- Assumes nothing.
+-- The laws that callers cite, and the facts that they and the functions' proofs rest on. Assumes nothing.
+pub mod Laws
