@@ -1,1 +1,2 @@
--- Assumes nothing.
+-- The laws that callers cite. Assumes nothing.
+pub mod Laws
