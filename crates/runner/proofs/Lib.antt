@@ -3,3 +3,4 @@ mod Setups
 mod Acts
 mod Sizes
 mod ByCall
+mod Lines

@@ -1,5 +1,5 @@
 -- The listing of any list of bytes (document 01, 'Script and listing'). Assumes nothing.
-use Prim.Native.Nat.{ℕ, suc, _*_}
+use Prim.Native.Nat.{ℕ, _+_, _*_}
 use mathlib.Core.Bool.{Bool, cond, _&&_}
 use mathlib.Core.List.{List, [], _∷_, _++_}
 use lib.Dec.{ltb, leb}
@@ -61,7 +61,7 @@ unfoldable pub listed : Columns → World → ℕ → List (List ℕ) → List �
 listed at w n [] = []
 listed at w n (l ∷ ls) =
     cond (ltb mostLines n) (line n (Refused 11))
-    (line n (answered w (spells at l) .answer) ++ listed at (answered w (spells at l) .world) (suc n) ls)
+    (line n (answered w (spells at l) .answer) ++ listed at (answered w (spells at l) .world) (n + 1) ls)
 
 -- a bad names line gives `1 refused 11`, and nothing is read after it
 unfoldable pub named : Names → List (List ℕ) → List ℕ
