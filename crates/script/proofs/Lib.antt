@@ -2,4 +2,6 @@
 pub mod Laws
 mod Same
 mod Ends
+mod Places
+mod Verbs
 mod Takes

@@ -1,3 +1,7 @@
+-- `script::calls::field` meets its contract, by what `same` and `decimal::read` answer.
+-- Assumes nothing.
+use mathlib.Core.Path.{sym, _∙_}
+use Rattle.script.specs.Line.{numbered, field}
 use borrow.Author.Needs.{needs}
 use Rattle.script.proofs.calls.field.Statement.{statement}
 use Rattle.script.proofs.calls.field.Tie as tie
@@ -16,7 +20,8 @@ same-requires c κs = search needs
 
 -- src/calls.rt:70:9
 returns : tie.Need-returns
-returns c = ?
+unfolding field
+returns c = rw (sym (c .before .same .ensures) ∙ c .if1 .taken)
 
 -- src/calls.rt:72:11
 read-requires : tie.Need-read-requires
@@ -32,11 +37,13 @@ enum-told c = search needs
 
 -- src/calls.rt:66:1
 returns-2 : tie.Need-returns-2
-returns-2 c = ?
+unfolding field numbered
+returns-2 c = rw (sym (c .before .before .before .before .before .same .ensures) ∙ c .before .before .before .before .if1 .left, sym (c .before .before .before .read .ensures) ∙ c .before .n .given .1)
 
 -- src/calls.rt:66:1
 returns-3 : tie.Need-returns-3
-returns-3 c = ?
+unfolding field numbered
+returns-3 c = rw (sym (c .before .before .before .before .same .ensures) ∙ c .before .before .before .if1 .left, sym (c .before .before .read .ensures) ∙ c .enum-told .given .1)
 
 pub field-spec : {M : Type 1} → statement M
 field-spec =

@@ -1,3 +1,6 @@
+-- `script::calls::named` meets its contract, by what `same` answers.
+-- Assumes nothing.
+use mathlib.Core.Path.{sym, _∙_}
 use borrow.Author.Needs.{needs}
 use Rattle.script.proofs.calls.named.Statement.{statement}
 use Rattle.script.proofs.calls.named.Tie as tie
@@ -11,11 +14,11 @@ same-requires c κs = search needs
 
 -- src/calls.rt:55:1
 returns : tie.Need-returns
-returns c = ?
+returns c = rw (sym (c .before .same .ensures) ∙ c .if1 .taken)
 
 -- src/calls.rt:55:1
 returns-2 : tie.Need-returns-2
-returns-2 c = ?
+returns-2 c = rw (sym (c .before .same .ensures) ∙ c .if1 .left)
 
 pub named-spec : {M : Type 1} → statement M
 named-spec = tie.close (tie.spec same-requires returns returns-2)

@@ -1,3 +1,9 @@
+-- `script::calls::parse` meets its contract: each part is the field that the definition takes, and `spelt` says what they spell.
+-- Assumes nothing.
+use mathlib.Core.Path.{sym}
+use Rattle.script.specs.Line.{meant, spells}
+use Rattle.script.proofs.Laws.{no-call}
+use Rattle.script.proofs.Ends.{spaced, not-parted}
 use borrow.Author.Needs.{needs}
 use Rattle.script.proofs.calls.parse.Statement.{statement}
 use Rattle.script.proofs.calls.parse.Tie as tie
@@ -23,11 +29,11 @@ enum-told c = search needs
 
 -- src/calls.rt:22:9
 returns : tie.Need-returns
-returns c = ?
+returns c = sym (no-call _ _ (not-parted _ (c .enum-told .given .1) (c .before .before .cut .ensures)))
 
 -- src/calls.rt:24:21
 part-requires : tie.Need-part-requires
-part-requires c κs = ?
+part-requires c κs = spaced _ (c .before .s .given .1) (c .before .before .before .cut .ensures)
 
 -- src/calls.rt:24:9
 verb-requires : tie.Need-verb-requires
@@ -35,7 +41,7 @@ verb-requires c κs = search needs
 
 -- src/calls.rt:25:22
 part-requires-2 : tie.Need-part-requires-2
-part-requires-2 c κs = ?
+part-requires-2 c κs = spaced _ (c .before .before .before .s .given .1) (c .before .before .before .before .before .cut .ensures)
 
 -- src/calls.rt:25:9
 field-requires : tie.Need-field-requires
@@ -43,7 +49,7 @@ field-requires c κs = search needs
 
 -- src/calls.rt:26:22
 part-requires-3 : tie.Need-part-requires-3
-part-requires-3 c κs = ?
+part-requires-3 c κs = spaced _ (c .before .before .before .before .before .s .given .1) (c .before .before .before .before .before .before .before .cut .ensures)
 
 -- src/calls.rt:26:9
 field-requires-2 : tie.Need-field-requires-2
@@ -51,7 +57,7 @@ field-requires-2 c κs = search needs
 
 -- src/calls.rt:27:23
 part-requires-4 : tie.Need-part-requires-4
-part-requires-4 c κs = ?
+part-requires-4 c κs = spaced _ (c .before .before .before .before .before .before .before .s .given .1) (c .before .before .before .before .before .before .before .before .before .cut .ensures)
 
 -- src/calls.rt:27:9
 field-requires-3 : tie.Need-field-requires-3
@@ -63,7 +69,8 @@ spelt-requires c κs = search needs
 
 -- src/calls.rt:18:1
 returns-2 : tie.Need-returns-2
-returns-2 c = ?
+unfolding spells meant
+returns-2 c = cc
 
 pub parse-spec : {M : Type 1} → statement M
 parse-spec =

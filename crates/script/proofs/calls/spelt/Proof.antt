@@ -1,3 +1,8 @@
+-- `script::calls::spelt` meets its contract: each arm is the definition's clause for its verb, with the numbers that were taken out.
+-- Assumes nothing.
+use mathlib.Core.Path.{sym}
+use Rattle.script.specs.Line.{number, spelt}
+use Rattle.script.proofs.Takes.{no-number, no-core}
 use borrow.Author.Needs.{needs}
 use Rattle.script.proofs.calls.spelt.Statement.{statement}
 use Rattle.script.proofs.calls.spelt.Tie as tie
@@ -14,7 +19,7 @@ enum-known-core c = search needs
 
 -- src/calls.rt:83:9
 returns : tie.Need-returns
-returns c = ?
+returns c = sym (no-core _ _ _ _ (c .match .keys2))
 
 -- src/calls.rt:87:17
 enum-told : tie.Need-enum-told
@@ -26,7 +31,8 @@ enum-known-card c = search needs
 
 -- src/calls.rt:88:17
 returns-2 : tie.Need-returns-2
-returns-2 c = ?
+unfolding spelt number
+returns-2 c = rw (c .before .enum-told .given .1, c .before .before .before .before .core .given .1) (sym (no-number (c .before .before .before .before .before .before .args .card) _ (c .match3 .keys2)))
 
 -- src/calls.rt:90:13
 ended-requires : tie.Need-ended-requires
@@ -58,7 +64,8 @@ enum-known-card-2 c = search needs
 
 -- src/calls.rt:96:17
 returns-3 : tie.Need-returns-3
-returns-3 c = ?
+unfolding spelt number
+returns-3 c = rw (c .before .enum-told4 .given .1, c .before .before .before .before .core .given .1) (sym (no-number (c .before .before .before .before .before .before .args .card) _ (c .match4 .keys2)))
 
 -- src/calls.rt:98:13
 ended-requires-2 : tie.Need-ended-requires-2
@@ -102,39 +109,46 @@ enum-told-9 c = search needs
 
 -- src/calls.rt:79:1
 returns-4 : tie.Need-returns-4
-returns-4 c = ?
+unfolding spelt number
+returns-4 c = rw (c .before .before .before .before .enum-told .given .1, c .before .before .before .before .before .before .before .core .given .1, c .before .before .card .given .1) (c .ended .ensures)
 
 -- src/calls.rt:79:1
 returns-5 : tie.Need-returns-5
-returns-5 c = ?
+returns-5 c = rw (c .before .enum-told2 .given .1, c .before .before .before .before .core .given .1) (c .release .ensures)
 
 -- src/calls.rt:79:1
 returns-6 : tie.Need-returns-6
-returns-6 c = ?
+unfolding spelt number
+returns-6 c = rw (c .before .enum-told3 .given .1, c .before .before .before .before .core .given .1) (c .bare .ensures)
 
 -- src/calls.rt:79:1
 returns-7 : tie.Need-returns-7
-returns-7 c = ?
+unfolding spelt number
+returns-7 c = rw (c .before .before .before .before .enum-told4 .given .1, c .before .before .before .before .before .before .before .core .given .1, c .before .before .card2 .given .1) (c .ended2 .ensures)
 
 -- src/calls.rt:79:1
 returns-8 : tie.Need-returns-8
-returns-8 c = ?
+returns-8 c = rw (c .before .enum-told5 .given .1, c .before .before .before .before .core .given .1) (c .write .ensures)
 
 -- src/calls.rt:79:1
 returns-9 : tie.Need-returns-9
-returns-9 c = ?
+unfolding spelt number
+returns-9 c = rw (c .before .enum-told6 .given .1, c .before .before .before .before .core .given .1) (c .bare2 .ensures)
 
 -- src/calls.rt:79:1
 returns-10 : tie.Need-returns-10
-returns-10 c = ?
+unfolding spelt number
+returns-10 c = rw (c .before .enum-told7 .given .1, c .before .before .before .before .core .given .1) (c .bare3 .ensures)
 
 -- src/calls.rt:79:1
 returns-11 : tie.Need-returns-11
-returns-11 c = ?
+unfolding spelt number
+returns-11 c = rw (c .before .enum-told8 .given .1, c .before .before .before .before .core .given .1) (c .bare4 .ensures)
 
 -- src/calls.rt:79:1
 returns-12 : tie.Need-returns-12
-returns-12 c = ?
+unfolding spelt
+returns-12 c = rw (c .enum-told9 .given .1)
 
 pub spelt-spec : {M : Type 1} → statement M
 spelt-spec =
