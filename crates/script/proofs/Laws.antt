@@ -14,19 +14,26 @@ use Rattle.script.specs.declared.Names.the-variants as Names
 use Rattle.script.specs.Pieces.{onto, pieces, ended, lines, same}
 use Rattle.script.specs.Line.{longest, fields, place, ordered, names, verb, meant, spelt, spells}
 
--- ---- a line of more than 64 bytes
+-- ---- a line of more than 64 bytes, and any other that has no four fields
 
-no-fields : (line : List ℕ) → longest < length line → fields line ≡ []
+pub no-fields : (line : List ℕ) → longest < length line → fields line ≡ []
 unfolding fields
 no-fields line h = rw (lt-leb (length line) longest h)
 
-pub too-long : (at : Columns) (line : List ℕ) → longest < length line → spells at line ≡ Malformed
+-- a line that has no four fields
+pub no-call : (at : Columns) (line : List ℕ) → fields line ≡ [] → spells at line ≡ Malformed
 unfolding spells meant verb same spelt
-too-long at line h = rw (no-fields line h)
+no-call at line e = rw e
+
+pub no-order : (line : List ℕ) → fields line ≡ [] → names line ≡ Names.Malformed
+unfolding names ordered place
+no-order line e = rw e
+
+pub too-long : (at : Columns) (line : List ℕ) → longest < length line → spells at line ≡ Malformed
+too-long at line h = no-call at line (no-fields line h)
 
 pub names-too-long : (line : List ℕ) → longest < length line → names line ≡ Names.Malformed
-unfolding names ordered place
-names-too-long line h = rw (no-fields line h)
+names-too-long line h = no-order line (no-fields line h)
 
 -- ---- the first piece of a list, and the others
 

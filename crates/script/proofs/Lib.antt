@@ -1,2 +1,7 @@
 -- The laws that callers cite, and the facts that they and the functions' proofs rest on. Assumes nothing.
 pub mod Laws
+mod Same
+mod Ends
+mod Places
+mod Verbs
+mod Takes

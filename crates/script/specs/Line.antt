@@ -1,9 +1,9 @@
 -- Which call a line spells, and which order of the fields a line of names gives. Assumes nothing.
-use Prim.Native.Nat.{ℕ, suc}
+use Prim.Native.Nat.{ℕ, suc, _+_}
 use mathlib.Core.Bool.{Bool, cond, _&&_}
 use mathlib.Core.List.{List, [], _∷_}
 use lib.Dec.{eqb, leb, ltb}
-use lib.ListN.{length, getD}
+use lib.ListN.{length, getD, drop}
 use Rattle.decimal.specs.Reading.{reads}
 use Rattle.decimal.specs.declared.Number.{Number}
 use Rattle.decimal.specs.declared.Number.the-variants as Read
@@ -29,6 +29,15 @@ longest = 64
 -- the four fields of a line, one space (byte 32) between; none where the line is too long or has more or fewer fields
 unfoldable pub fields : List ℕ → List (List ℕ)
 fields line = cond (leb (length line) longest && eqb (length (pieces 32 line)) 4) (pieces 32 line) []
+
+-- how many bytes stand before the first space, or before the end
+unfoldable pub untilSpace : List ℕ → ℕ
+untilSpace [] = 0
+untilSpace (b ∷ bs) = cond (eqb b 32) 0 (suc (untilSpace bs))
+
+-- where the field that begins at a place ends: at the first space from there on, or at the line's end; past the end, at the place itself
+unfoldable pub fieldEnd : List ℕ → ℕ → ℕ
+fieldEnd line from = from + untilSpace (drop from line)
 
 -- ---- the line of names: call, core, card, value, each once, in any order
 

@@ -1,5 +1,15 @@
 // Which call a line of a script spells (document 01, 'Script and listing'). A script's first line says the order of the fields;
 // each other line is a call or malformed. Assumes nothing.
+//
+// `order` reads the first line, `parse` each other line, and `field_end` says where a field ends. Their contracts cite `specs/`;
+// `proofs/Laws.antt` has what a caller knows of what stands there. The public functions require nothing.
+mod calls;
+mod fields;
+mod heading;
+
+pub use calls::parse;
+pub use fields::field_end;
+pub use heading::order;
 
 // A call as a script spells it: its numbers, whatever they are.
 pub enum Call {

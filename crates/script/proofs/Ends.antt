@@ -1,0 +1,149 @@
+-- Where a field ends, byte by byte, and how that cuts a line into its fields.
+-- Assumes nothing.
+use mathlib.Core.Path.{_≡_, refl, sym, ap, _∙_}
+use mathlib.Core.Logic.{dite}
+use mathlib.Core.Bool.{Bool, true, false, cond, _&&_}
+use mathlib.Core.List.{List, [], _∷_}
+use Prim.Native.Nat.{ℕ, suc, _+_, _-_, _≤_, _<_}
+use native.Mathlib.Decide.{decLt}
+use native.Mathlib.Nat.{sub-zero}
+use native.Mathlib.Numerals.{add-one}
+use native.Mathlib.Omega.{arith}
+use lib.Dec.{eqb}
+use lib.ListN.{length, getD, take, drop, drop-of-length-le, length-drop}
+use lib.Seq.{drop-cons, drop-drop, drop-length}
+use borrow.Author.Tests.{eq-eqb, ne-eqb, le-leb, lt-leb}
+use Rattle.script.specs.Pieces.{onto, pieces}
+use Rattle.script.specs.Line.{longest, untilSpace, fieldEnd, fields}
+use Rattle.script.specs.declared.fields.Spaces.{Spaces}
+use Rattle.script.specs.declared.fields.Bounds.{Bounds}
+use Rattle.script.specs.declared.fields.Bounds.the-variants.{Four, Other}
+use Rattle.script.specs.Spaces.{between, Spaced, Parted}
+use Rattle.script.proofs.Laws.{first, others, some-piece}
+
+-- ---- a field ends at a space, or goes on, or the line ends
+
+module _ (line : List ℕ) (i : ℕ) where
+  pub ends-here : i < length line → getD line i 0 ≡ 32 → fieldEnd line i ≡ i
+  unfolding fieldEnd untilSpace
+  ends-here h e = rw (drop-cons line i 0 h, eq-eqb (getD line i 0) 32 e) (omega arith)
+
+  pub goes-on : i < length line → (getD line i 0 ≡ 32 → ⊥) → fieldEnd line i ≡ fieldEnd line (i + 1)
+  unfolding fieldEnd untilSpace
+  goes-on h n = rw (drop-cons line i 0 h, ne-eqb (getD line i 0) 32 n, add-one) (omega arith)
+
+  pub line-ends : length line ≤ i → fieldEnd line i ≡ i
+  unfolding fieldEnd untilSpace
+  line-ends h = rw (drop-of-length-le line h) (omega arith)
+
+-- ---- pieces, by where the first of them ends
+
+at-most : (t : Bool) (n m : ℕ) → n ≤ m → cond t 0 (suc n) ≤ suc m
+at-most true n m h = omega arith
+at-most false n m h = omega arith
+
+pub ends-within : (bs : List ℕ) → untilSpace bs ≤ length bs
+unfolding untilSpace
+ends-within [] = omega arith
+ends-within (b ∷ bs) = at-most (eqb b 32) (untilSpace bs) (length bs) (ends-within bs)
+
+-- the bytes before the first space and those after it
+Cut : List ℕ → Type 0
+Cut bs = untilSpace bs < length bs → pieces 32 bs ≡ take (untilSpace bs) bs ∷ pieces 32 (drop (suc (untilSpace bs)) bs)
+
+cut-test : (b : ℕ) (bs : List ℕ) (t : Bool) → eqb b 32 ≡ t → Cut bs → Cut (b ∷ bs)
+unfolding Cut untilSpace pieces onto
+cut-test b bs true e ih h = rw e
+cut-test b bs false e ih h = rw (e, ih (omega (arith, rw e at h)))
+
+cut-first : (bs : List ℕ) → Cut bs
+unfolding Cut
+cut-first [] h = absurd (omega arith)
+cut-first (b ∷ bs) h = cut-test b bs (eqb b 32) refl (cut-first bs) h
+
+-- no space
+Whole : List ℕ → Type 0
+Whole bs = length bs ≤ untilSpace bs → pieces 32 bs ≡ bs ∷ []
+
+whole-test : (b : ℕ) (bs : List ℕ) (t : Bool) → eqb b 32 ≡ t → Whole bs → Whole (b ∷ bs)
+unfolding Whole untilSpace pieces onto
+whole-test b bs true e ih h = absurd (omega (arith, rw e at h))
+whole-test b bs false e ih h = rw (e, ih (omega (arith, rw e at h)))
+
+whole-first : (bs : List ℕ) → Whole bs
+unfolding Whole pieces
+whole-first [] h = refl
+whole-first (b ∷ bs) h = whole-test b bs (eqb b 32) refl (whole-first bs) h
+
+-- ---- a line, by where the field that begins at a place ends
+
+module _ (line : List ℕ) (from to : ℕ) (e : to ≡ fieldEnd line from) where
+  pub not-before : from ≤ to
+  unfolding fieldEnd
+  not-before = omega arith
+
+  pub near : to ≤ from + length line
+  unfolding fieldEnd
+  near = omega (arith, ends-within (drop from line), length-drop from line)
+
+  pub cut-at : to < length line → pieces 32 (drop from line) ≡ between from to line ∷ pieces 32 (drop (to + 1) line)
+  unfolding fieldEnd Cut
+  cut-at h =
+      let bs = drop from line in
+      let k = untilSpace bs in
+      let size : to - from ≡ k = omega arith in
+      let next : from + suc k ≡ to + 1 = omega arith in
+      cut-first bs (omega (arith, length-drop from line)) ∙ rw (size, drop-drop (suc k) from line, next)
+
+  pub cut-last : length line ≤ to → pieces 32 (drop from line) ≡ drop from line ∷ []
+  unfolding fieldEnd Whole
+  cut-last h = whole-first (drop from line) (omega (arith, length-drop from line))
+
+-- ---- a line of at most 64 bytes, by where three fields in a row end
+
+module _ (line : List ℕ) (short : length line ≤ longest) where
+  with-pieces : (ps : List (List ℕ)) → pieces 32 line ≡ ps → fields line ≡ cond (eqb (length ps) 4) ps []
+  unfolding fields
+  with-pieces ps e = rw (le-leb (length line) longest short, e)
+
+  not-four : (ps : List (List ℕ)) → pieces 32 line ≡ ps → (length ps ≡ 4 → ⊥) → fields line ≡ []
+  not-four ps e n = with-pieces ps e ∙ rw (ne-eqb (length ps) 4 n)
+
+module _ (line : List ℕ) (short : length line ≤ longest) (a b c : ℕ) (ea : a ≡ fieldEnd line 0) (eb : b ≡ fieldEnd line (a + 1)) (ec : c ≡ fieldEnd line (b + 1)) where
+  abbrev front : List (List ℕ) → List (List ℕ)
+  front ps = take a line ∷ between (a + 1) b line ∷ between (b + 1) c line ∷ ps
+
+  three : c < length line → pieces 32 line ≡ front (pieces 32 (drop (c + 1) line))
+  three h =
+      let past-a = not-before line (a + 1) b eb in
+      let past-b = not-before line (b + 1) c ec in
+      cut-at line 0 a ea (omega arith) ∙ rw (cut-at line (a + 1) b eb (omega arith), cut-at line (b + 1) c ec h, sub-zero)
+
+  pub four : c < length line → length line ≤ fieldEnd line (c + 1) → fields line ≡ front (drop (c + 1) line ∷ [])
+  four h l = with-pieces line short _ (three h ∙ ap front (cut-last line (c + 1) (fieldEnd line (c + 1)) refl l))
+
+  pub over : c < length line → fieldEnd line (c + 1) < length line → fields line ≡ []
+  over h l =
+      let d = fieldEnd line (c + 1) in
+      let last = some-piece 32 (drop (d + 1) line) in
+      not-four line short _
+      (three h ∙ ap front (cut-at line (c + 1) d refl l ∙ ap (_∷_ (between (c + 1) d line)) last))
+      (λ e. omega arith)
+
+  pub under : length line ≤ c → fields line ≡ []
+  under h =
+      dite (decLt a (length line))
+      (λ ha. dite (decLt b (length line))
+      (λ hb. with-pieces line short _ (cut-at line 0 a ea ha ∙ ap (_∷_ (between 0 a line)) (cut-at line (a + 1) b eb hb ∙ ap (_∷_ (between (a + 1) b line)) (cut-last line (b + 1) c ec h))))
+      (λ nb. with-pieces line short _ (cut-at line 0 a ea ha ∙ ap (_∷_ (between 0 a line)) (cut-last line (a + 1) b eb (omega arith)))))
+      (λ na. with-pieces line short _ (cut-last line 0 a ea (omega arith)))
+
+-- ---- what a caller learns of the fields
+
+pub spaced : (line : List ℕ) {r : Bounds} {s : Spaces} → r ≡ Four s → Parted line r → Spaced line s
+unfolding Parted
+spaced line e p = rw e at p
+
+pub not-parted : (line : List ℕ) {r : Bounds} → r ≡ Other → Parted line r → fields line ≡ []
+unfolding Parted
+not-parted line e p = rw e at p

@@ -1,0 +1,25 @@
+-- `script::calls::ended` meets its contract: the field is unused, or the line spells nothing.
+-- Assumes nothing.
+use mathlib.Core.Path.{sym}
+use Rattle.script.specs.Line.{unused}
+use Rattle.script.proofs.Takes.{not-unused}
+use borrow.Author.Needs.{needs}
+use Rattle.script.proofs.calls.ended.Statement.{statement}
+use Rattle.script.proofs.calls.ended.Tie as tie
+use Rattle.script.proofs.calls.ended.Reads as reads
+use Rattle.script.proofs.calls.ended.Lts as lts
+
+enum-told : tie.Need-enum-told
+enum-told c = search needs
+
+-- src/calls.rt:113:9
+returns : tie.Need-returns
+returns c = sym (not-unused _ _ (c .match .keys2))
+
+-- src/calls.rt:109:1
+returns-2 : tie.Need-returns-2
+unfolding unused
+returns-2 c = rw (c .enum-told .given .1)
+
+pub ended-spec : {M : Type 1} → statement M
+ended-spec = tie.close (tie.spec enum-told returns returns-2)

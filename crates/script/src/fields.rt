@@ -1,0 +1,86 @@
+// The fields of a line: where each stands, and its bytes. Assumes nothing.
+ghost use mathlib.Core.Path.{_≡_};
+ghost use mathlib.Core.List.{[]};
+ghost use lib.ListN.{getD};
+ghost use Rattle.script.specs.Pieces.{same};
+ghost use Rattle.script.specs.Line.{fieldEnd, fields};
+ghost use Rattle.script.specs.Spaces.{Spaced, Parted};
+
+// The places of the three spaces of a line of four fields.
+pub struct Spaces(pub usize, pub usize, pub usize);
+
+// Where the fields of a line stand, or that they are not four.
+pub enum Bounds {
+    Four(Spaces),
+    Other,
+}
+
+// The most bytes that a line may have, without its newline.
+const LONGEST: usize = 64;
+
+// Where the field that begins at a place ends: at the first space from there on, or at the line's end.
+pub fn field_end(line: &[u8], from: usize) -> usize
+    ensures { λ r. ⌜ r ≡ fieldEnd (now (line .entry)) from ⌝ }
+{
+    let mut i = from;
+    while i < line.len() {
+        if line[i] == b' ' {
+            return i;
+        }
+        i += 1;
+    }
+    i
+}
+
+// Finds the three spaces of a line, one pass over it.
+pub fn cut(line: &[u8]) -> Bounds
+    ensures { λ r. ⌜ Parted (now (line .entry)) r ⌝ }
+{
+    if LONGEST < line.len() {
+        return Bounds::Other;
+    }
+    let first = field_end(line, 0);
+    let second = field_end(line, first + 1);
+    let third = field_end(line, second + 1);
+    if line.len() <= third {
+        return Bounds::Other;
+    }
+    if field_end(line, third + 1) < line.len() {
+        return Bounds::Other;
+    }
+    Bounds::Four(Spaces(first, second, third))
+}
+
+// The bytes of a field, counted from 0; none past the last.
+pub fn part(line: &[u8], s: Spaces, n: usize) -> &[u8]
+    requires { ⌜ Spaced (now line) s ⌝ }
+    ensures { λ r. ⌜ now r ≡ getD (fields (now (line .entry))) n [] ⌝ }
+{
+    let first = s.0;
+    let second = s.1;
+    let third = s.2;
+    match n {
+        0 => &line[..first],
+        1 => &line[first + 1..second],
+        2 => &line[second + 1..third],
+        3 => &line[third + 1..],
+        _ => &line[..0],
+    }
+}
+
+// Whether two slices hold the same bytes.
+pub fn same(a: &[u8], b: &[u8]) -> bool
+    ensures { λ r. ⌜ r ≡ same (now (a .entry)) (now (b .entry)) ⌝ }
+{
+    if a.len() != b.len() {
+        return false;
+    }
+    let mut i = 0;
+    while i < a.len() {
+        if a[i] != b[i] {
+            return false;
+        }
+        i += 1;
+    }
+    true
+}
