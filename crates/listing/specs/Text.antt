@@ -1,9 +1,9 @@
 -- How the lines of a listing are written, and what putting one leaves in the lent output. Assumes nothing.
-use Prim.Native.Nat.{ℕ}
+use Prim.Native.Nat.{ℕ, _+_}
 use mathlib.Core.Bool.{cond}
 use mathlib.Core.List.{List, [], _∷_, _++_}
-use lib.Dec.{ltb}
-use lib.ListN.{length, drop}
+use lib.Dec.{ltb, leb}
+use lib.ListN.{length, take, drop}
 use Rattle.decimal.specs.Spelling.{spelling}
 use Rattle.machine.specs.declared.Answer.{Answer}
 use Rattle.machine.specs.declared.Answer.the-variants.{Ready, Running, Queued, Begun, Value, Written, Waits, Committed, SetBack, Ended, Finished, Refused}
@@ -62,3 +62,15 @@ fitting text output = cond (ltb (length output) 32) [] text
 -- the output with those bytes as its first part: the bytes after it keep what they held
 unfoldable pub put : List ℕ → List ℕ → List ℕ
 put text output = fitting text output ++ drop (length (fitting text output)) output
+
+-- the bytes that putting a text over the bytes of an output from `at` on takes: all of them, and none where they do not fit
+unfoldable pub fittingAt : ℕ → List ℕ → List ℕ → List ℕ
+fittingAt at text output = cond (leb (at + length text) (length output)) text []
+
+-- the output with the text from `at` on, where it fits: the bytes before and after it keep what they held
+unfoldable pub placed : ℕ → List ℕ → List ℕ → List ℕ
+placed at text output = cond (leb (at + length text) (length output)) (take at output ++ text ++ drop (at + length text) output) output
+
+-- the answer between two spaces
+unfoldable pub spaced : Answer → List ℕ
+spaced a = 32 ∷ word a ++ 32 ∷ []
