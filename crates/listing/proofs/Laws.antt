@@ -1,11 +1,10 @@
 -- What a caller knows of a listing: a line has 1 to 32 bytes, what putting a text leaves, and that texts put one after another are put as
 -- one.
 -- Assumes nothing.
-use mathlib.Core.Path.{_≡_}
+use mathlib.Core.Path.{_≡_, refl, sym, ap, _∙_}
 use mathlib.Core.List.{List, [], _++_, append-nil, append-assoc}
 use Prim.Native.Nat.{ℕ, _+_, _-_, _≤_, _<_}
 use native.Mathlib.Omega.{arith}
-use native.Mathlib.Nat.{zero-add}
 use lib.ListN.{length, take, drop, length-append, length-take, length-drop, drop-of-length-le}
 use lib.Seq.{take-all, take-append-seam, drop-append-add, drop-drop}
 use borrow.Author.Tests.{lt-ltb, le-ltb, lt-leb, le-leb}
@@ -17,7 +16,6 @@ use Rattle.listing.specs.Text.{word, value, said, line, fitting, put, fi
 -- ---- the length of a line
 
 pub word-short : (a : Answer) → length (word a) ≤ 9
-unfolding word
 word-short Ready = omega arith
 word-short Running = omega arith
 word-short Queued = omega arith
@@ -32,7 +30,6 @@ word-short (Finished j) = omega arith
 word-short (Refused n) = omega arith
 
 pub value-short : (a : Answer) → length (value a) ≤ 10
-unfolding value
 value-short Ready = omega arith
 value-short Running = omega arith
 value-short Queued = omega arith
@@ -109,11 +106,34 @@ placed-part at text output left h e =
 over-length : (text output : List ℕ) → length text ≤ length output → length (over text output) ≡ length output
 over-length text output h = rw (length-append, length-drop) (omega arith)
 
--- a text at the start, and one after another: putting A and then B right after it is putting both
-pub placed-first : (text output : List ℕ) → length text ≤ length output → placed 0 text output ≡ over text output
-placed-first text output h = rw (placed-whole 0 text output (omega arith), zero-add)
-
-pub placed-next : (A B output : List ℕ) → length A + length B ≤ length output → placed (length A) B (over A output) ≡ over (A ++ B) output
+-- putting A and then B right after it is putting both
+placed-next : (A B output : List ℕ) → length A + length B ≤ length output → placed (length A) B (over A output) ≡ over (A ++ B) output
 placed-next A B output h =
     let room : length A + length B ≤ length (over A output) = omega (arith, over-length A output (omega arith)) in
     rw (placed-whole (length A) B (over A output) room, take-append-seam, drop-append-add, drop-drop, length-append)
+
+-- ---- texts put one after another
+
+-- a text of k bytes stands at the start of what an output came to
+pub record Stands (text output : List ℕ) (k : ℕ) (after : List ℕ) : Type 0 where
+  pub count : k ≡ length text
+  pub bytes : after ≡ over text output
+
+pub stands-none : (output : List ℕ) → Stands [] output 0 output
+stands-none output = record { count = refl; bytes = refl }
+
+pub stands-next : {A output after last : List ℕ} {k r : ℕ} (B : List ℕ) → Stands A output k after → length A + length B ≤ length output
+    → r ≡ length (fittingAt k B after) → last ≡ placed k B after → Stands (A ++ B) output (k + r) last
+stands-next {A} {output} {after} {last} {k} {r} B st h count bytes =
+    let room : length A + length B ≤ length (over A output) = omega (arith, over-length A output (omega arith)) in
+    let there = rw (st .count, st .bytes) at count in
+    let whole : r ≡ length B = there ∙ ap length (fittingAt-whole (length A) B (over A output) room) in
+    record { count = rw length-append (omega arith); bytes = rw (st .count, st .bytes) at bytes ∙ placed-next A B output h }
+
+pub stands-length : {text output after : List ℕ} {k : ℕ} → Stands text output k after → length text ≤ length output → length after ≡ length output
+stands-length {text} {output} st h = ap length (st .bytes) ∙ over-length text output h
+
+-- a text that stands at the start was put there
+pub stands-put : {text output after : List ℕ} {k : ℕ} → Stands text output k after → 32 ≤ length output → (k ≡ length (fitting text output)) × (after ≡ put text output)
+stands-put {text} {output} st h =
+    (st .count ∙ ap length (sym (fitting-whole text output h)), st .bytes ∙ sym (put-whole text output h))

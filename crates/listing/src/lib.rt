@@ -5,9 +5,9 @@
 use machine::Answer;
 ghost use mathlib.Core.Path.{_≡_};
 ghost use Prim.Native.Nat.{_+_, _≤_};
-ghost use lib.ListN.{length};
+ghost use lib.ListN.{length, take};
 ghost use Rattle.decimal.specs.Spelling.{spelling};
-ghost use Rattle.listing.specs.Text.{heading, spaced, value, line, fitting, put, fittingAt, placed};
+ghost use Rattle.listing.specs.Text.{heading, spaced, value, written, line, fitting, put, fittingAt, placed};
 
 // Puts the heading over the first bytes of the output, and answers how many there are. The bytes
 // after them keep what they held. An output under 32 bytes keeps its bytes, and the answer is 0.
@@ -31,54 +31,64 @@ pub fn put_line(number: u32, answer: Answer, output: &mut [u8]) -> usize
     if output.len() < 32 {
         return 0;
     }
+    let said = said_of(answer);
+    let text = said.0;
+    let count = said.1;
+    let field = said.2;
     let mut k = put_number(number, output, 0);
-    k += put_word(answer, output, k);
-    k += put_value(answer, output, k);
+    k += put_bytes(output, k, &text[..count]);
+    k += put_field(field, output, k);
     k + put_bytes(output, k, b"\n")
 }
 
-// Puts the answer's word between two spaces over the output's bytes from `at` on, and answers how many bytes that is.
-fn put_word(answer: Answer, output: &mut [u8], at: usize) -> usize
-    requires { ⌜ at + 11 ≤ length (now output) ⌝ }
-    ensures count { λ r. ⌜ r ≡ length (spaced answer) ⌝ }
-    ensures bytes { λ _. ⌜ now (output .exit) ≡ placed at (spaced answer) (now (output .entry)) ⌝ }
+// An answer's value: a number, or `-`.
+enum Field {
+    Number(u32),
+    Dash,
+}
+
+// What stands between a line's number and its newline: a text whose first bytes are the answer's word
+// between two spaces, how many they are, and the value.
+struct Said([u8; 11], usize, Field);
+
+// What an answer says.
+fn said_of(answer: Answer) -> Said
+    ensures count { λ r. ⌜ r .1 ≡ length (spaced answer) ⌝ }
+    ensures text { λ r. ⌜ take (r .1) (r .0) ≡ spaced answer ⌝ }
+    ensures field { λ r. ⌜ written (r .2) ≡ value answer ⌝ }
 {
     match answer {
-        Answer::Ready => put_bytes(output, at, b" ready "),
-        Answer::Running => put_bytes(output, at, b" running "),
-        Answer::Queued => put_bytes(output, at, b" queued "),
-        Answer::Begun(_) => put_bytes(output, at, b" begun "),
-        Answer::Value(_, _) => put_bytes(output, at, b" value "),
-        Answer::Written => put_bytes(output, at, b" written "),
-        Answer::Waits(_) => put_bytes(output, at, b" waits "),
-        Answer::Committed(_) => put_bytes(output, at, b" committed "),
-        Answer::SetBack => put_bytes(output, at, b" setback "),
-        Answer::Ended => put_bytes(output, at, b" ended "),
-        Answer::Finished(_) => put_bytes(output, at, b" finished "),
-        Answer::Refused(_) => put_bytes(output, at, b" refused "),
+        Answer::Ready => Said(*b" ready     ", 7, Field::Dash),
+        Answer::Running => Said(*b" running   ", 9, Field::Dash),
+        Answer::Queued => Said(*b" queued    ", 8, Field::Dash),
+        Answer::Begun(ticket) => Said(*b" begun     ", 7, Field::Number(ticket)),
+        Answer::Value(value, _) => Said(*b" value     ", 7, Field::Number(value)),
+        Answer::Written => Said(*b" written   ", 9, Field::Dash),
+        Answer::Waits(_) => Said(*b" waits     ", 7, Field::Dash),
+        Answer::Committed(setbacks) => Said(*b" committed ", 11, Field::Number(setbacks as u32)),
+        Answer::SetBack => Said(*b" setback   ", 9, Field::Dash),
+        Answer::Ended => Said(*b" ended     ", 7, Field::Dash),
+        Answer::Finished(job) => Said(*b" finished  ", 10, Field::Number(job as u32)),
+        Answer::Refused(number) => Said(*b" refused   ", 9, Field::Number(number as u32)),
     }
 }
 
-// Puts the answer's value, or `-`, over the output's bytes from `at` on, and answers how many bytes that is.
-fn put_value(answer: Answer, output: &mut [u8], at: usize) -> usize
+// Puts a value over the output's bytes from `at` on, and answers how many bytes that is.
+fn put_field(field: Field, output: &mut [u8], at: usize) -> usize
     requires { ⌜ at + 10 ≤ length (now output) ⌝ }
-    ensures count { λ r. ⌜ r ≡ length (value answer) ⌝ }
-    ensures bytes { λ _. ⌜ now (output .exit) ≡ placed at (value answer) (now (output .entry)) ⌝ }
+    ensures count { λ r. ⌜ r ≡ length (fittingAt at (written field) (now (output .entry))) ⌝ }
+    ensures bytes { λ _. ⌜ now (output .exit) ≡ placed at (written field) (now (output .entry)) ⌝ }
 {
-    match answer {
-        Answer::Begun(ticket) => put_number(ticket, output, at),
-        Answer::Value(value, _) => put_number(value, output, at),
-        Answer::Committed(setbacks) => put_number(setbacks as u32, output, at),
-        Answer::Finished(job) => put_number(job as u32, output, at),
-        Answer::Refused(number) => put_number(number as u32, output, at),
-        _ => put_bytes(output, at, b"-"),
+    match field {
+        Field::Number(n) => put_number(n, output, at),
+        Field::Dash => put_bytes(output, at, b"-"),
     }
 }
 
 // Puts n's digits over the output's bytes from `at` on, and answers how many there are.
 fn put_number(n: u32, output: &mut [u8], at: usize) -> usize
     requires { ⌜ at + 10 ≤ length (now output) ⌝ }
-    ensures count { λ r. ⌜ r ≡ length (spelling n) ⌝ }
+    ensures count { λ r. ⌜ r ≡ length (fittingAt at (spelling n) (now (output .entry))) ⌝ }
     ensures bytes { λ _. ⌜ now (output .exit) ≡ placed at (spelling n) (now (output .entry)) ⌝ }
 {
     decimal::put(n, &mut output[at..])

@@ -6,7 +6,7 @@ use denote.Ref.{now}
 use borrow.Author.Needs.{needs}
 use Rattle.decimal.specs.Spelling.{spelling}
 use Rattle.decimal.proofs.Laws.{spelling-length, shown-whole, printed-whole}
-use Rattle.listing.proofs.Laws.{over, placed-part}
+use Rattle.listing.proofs.Laws.{fittingAt-whole, placed-part}
 use Rattle.listing.proofs.put_number.Statement.{statement}
 use Rattle.listing.proofs.put_number.Tie as tie
 use Rattle.listing.proofs.put_number.Reads as reads
@@ -39,7 +39,7 @@ returns c =
     let start = c .before .before .before .before .before .args in
     let done = c .before .before .put in
     let some = spelling-length (start .n) in (
-      done .ensures .0 ∙ ap length (shown-whole (start .n) _ (omega arith)),
+      done .ensures .0 ∙ ap length (shown-whole (start .n) _ (omega arith) ∙ sym (fittingAt-whole (start .at) (spelling (start .n)) (now (start .output)) (omega arith))),
       placed-part (start .at) (spelling (start .n)) (now (start .output)) _ (omega arith) (done .ensures .1 ∙ printed-whole (start .n) _ (omega arith)),
     )
 
