@@ -11,7 +11,7 @@ use borrow.Author.Tests.{lt-ltb, le-ltb, lt-leb, le-leb}
 use Rattle.decimal.proofs.Laws.{spelling-length}
 use Rattle.machine.specs.declared.Answer.{Answer}
 use Rattle.machine.specs.declared.Answer.the-variants.{Ready, Running, Queued, Begun, Value, Written, Waits, Committed, SetBack, Ended, Finished, Refused}
-use Rattle.listing.specs.Text.{word, value, said, line, fitting, put, fittingAt, placed}
+use Rattle.listing.specs.Text.{word, value, spaced, said, line, fitting, put, fittingAt, placed}
 
 -- ---- the length of a line
 
@@ -28,6 +28,9 @@ word-short SetBack = omega arith
 word-short Ended = omega arith
 word-short (Finished j) = omega arith
 word-short (Refused n) = omega arith
+
+pub spaced-short : (a : Answer) → length (spaced a) ≤ 11
+spaced-short a = rw length-append (omega (arith, word-short a))
 
 pub value-short : (a : Answer) → length (value a) ≤ 10
 value-short Ready = omega arith
