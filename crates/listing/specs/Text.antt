@@ -1,12 +1,14 @@
 -- How the lines of a listing are written, and what putting one leaves in the lent output. Assumes nothing.
-use Prim.Native.Nat.{ℕ}
+use Prim.Native.Nat.{ℕ, _+_}
 use mathlib.Core.Bool.{cond}
 use mathlib.Core.List.{List, [], _∷_, _++_}
-use lib.Dec.{ltb}
-use lib.ListN.{length, drop}
+use lib.Dec.{ltb, leb}
+use lib.ListN.{length, take, drop}
 use Rattle.decimal.specs.Spelling.{spelling}
 use Rattle.machine.specs.declared.Answer.{Answer}
 use Rattle.machine.specs.declared.Answer.the-variants.{Ready, Running, Queued, Begun, Value, Written, Waits, Committed, SetBack, Ended, Finished, Refused}
+use Rattle.listing.specs.declared.Field.{Field}
+use Rattle.listing.specs.declared.Field.the-variants.{Number, Dash}
 
 -- `line answer value`, with its newline
 abbrev pub heading : List ℕ
@@ -14,7 +16,7 @@ heading =
     108 ∷ 105 ∷ 110 ∷ 101 ∷ 32 ∷ 97 ∷ 110 ∷ 115 ∷ 119 ∷ 101 ∷ 114 ∷ 32 ∷ 118 ∷ 97 ∷ 108 ∷ 117 ∷ 101 ∷ 10 ∷ []
 
 -- the answer: ready, running, queued, begun, value, written, waits, committed, setback, ended, finished, refused
-unfoldable pub word : Answer → List ℕ
+abbrev pub word : Answer → List ℕ
 word Ready = 114 ∷ 101 ∷ 97 ∷ 100 ∷ 121 ∷ []
 word Running = 114 ∷ 117 ∷ 110 ∷ 110 ∷ 105 ∷ 110 ∷ 103 ∷ []
 word Queued = 113 ∷ 117 ∷ 101 ∷ 117 ∷ 101 ∷ 100 ∷ []
@@ -33,7 +35,7 @@ abbrev pub dash : List ℕ
 dash = 45 ∷ []
 
 -- the value: begin's ticket, read's value, commit's setbacks, finish's job, refusal's number, else `-`
-unfoldable pub value : Answer → List ℕ
+abbrev pub value : Answer → List ℕ
 value Ready = dash
 value Running = dash
 value Queued = dash
@@ -62,3 +64,20 @@ fitting text output = cond (ltb (length output) 32) [] text
 -- the output with those bytes as its first part: the bytes after it keep what they held
 unfoldable pub put : List ℕ → List ℕ → List ℕ
 put text output = fitting text output ++ drop (length (fitting text output)) output
+
+-- the bytes that putting a text over the bytes of an output from `at` on takes: all of them, and none where they do not fit
+unfoldable pub fittingAt : ℕ → List ℕ → List ℕ → List ℕ
+fittingAt at text output = cond (leb (at + length text) (length output)) text []
+
+-- the output with the text from `at` on, where it fits: the bytes before and after it keep what they held
+unfoldable pub placed : ℕ → List ℕ → List ℕ → List ℕ
+placed at text output = cond (leb (at + length text) (length output)) (take at output ++ text ++ drop (at + length text) output) output
+
+-- the answer between two spaces
+abbrev pub spaced : Answer → List ℕ
+spaced a = 32 ∷ word a ++ 32 ∷ []
+
+-- the value column's text
+abbrev pub written : Field → List ℕ
+written (Number n) = spelling n
+written Dash = dash
