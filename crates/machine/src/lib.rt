@@ -128,6 +128,13 @@ fn refused_setup(number: u8) -> Outcome
 }
 
 impl Machine {
+    // The blank record, all fields 0.
+    pub fn blank() -> Machine
+        ensures { λ r. ⌜ r ≡ blank ⌝ }
+    {
+        fresh(0, 0)
+    }
+
     // Whether the record keeps the standing rules.
     pub fn sound(self) -> bool
         ensures { λ r. ⌜ r ≡ sound self ⌝ }

@@ -24,7 +24,7 @@ abbrev Alike : Result → Result → Type 0
 Alike a b = (said (a .answer) ≡ said (b .answer)) × (a .world ≡ b .world)
 
 waiting-alike : (e : ℕ) (w : World) → Alike (waiting w e) (waiting w 0)
-unfolding said word value
+unfolding said
 waiting-alike e w = (refl, refl)
 
 commit-alike : (e : ℕ) (w : World) (c : ℕ) → Alike (commit e w c) (commit 0 w c)

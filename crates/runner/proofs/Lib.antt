@@ -3,4 +3,5 @@ mod Setups
 mod Acts
 mod Sizes
 mod ByCall
-mod Lines
+mod LineLaws
+mod Written

@@ -12,6 +12,7 @@ use Rattle.machine.specs.declared.Machine.{Machine}
 use Rattle.machine.proofs.Sound.Keeps.{Good}
 use Rattle.script.specs.declared.Columns.{Columns}
 use Rattle.script.specs.Pieces.{lines}
+use Rattle.script.proofs.Laws.{free}
 use Rattle.runner.specs.declared.Reading.{Reading}
 use Rattle.runner.specs.Listing.{body, listed, mostLines}
 
@@ -37,3 +38,13 @@ pub record Held (m : Machine) (committed pending : List ℕ) : Type 0 where
   pub committed-long : length committed ≡ 64
   pub pending-long : length pending ≡ 1024
   pub blank-or-good : (m ≡ blank) ⊎ Good (held m committed pending)
+
+-- what the runner keeps true between two chunks
+pub record Fit (r : Reading) (committed pending : List ℕ) : Type 0 where
+  pub holds : Held (r .machine) committed pending
+  pub line-long : length (r .line) ≡ 65
+  pub few-bytes : r .length ≤ 65
+  pub no-newline : free 10 (begun r) ≡ true
+  pub some-line : 0 < r .number
+  pub few-lines : r .going ≡ true → r .number ≤ mostLines + 1
+  pub first-blank : r .number ≡ 1 → r .machine ≡ blank

@@ -1,8 +1,22 @@
 // Runs a script in chunks of any size and lists what each line answers (document 01, 'Script and listing').
+//
+// `start`, then `feed` for each chunk, then `finish`: the outputs together, after the heading, are the listing of the chunks together
+// (specs/Listing.antt), however the script is cut. These functions ask for what `start` gives and `feed` keeps (`Fit`); a caller who
+// has a script and an output calls the C entry instead, which asks nothing.
+use crate::lines::end_line;
 use machine::Machine;
 use script::Columns;
+ghost use mathlib.Core.Path.{_≡_};
+ghost use mathlib.Core.Bool.{true};
+ghost use mathlib.Core.List.{List, [], _++_};
+ghost use Prim.Native.Nat.{ℕ, _*_, _≤_};
+ghost use lib.ListN.{length, take, drop, replicate};
+ghost use Rattle.runner.specs.Kept.{Fit, rest};
+ghost use Rattle.runner.specs.Listing.{body};
+ghost use Rattle.script.specs.Pieces.{lines as linesOf};
 
 mod calls;
+mod lines;
 
 // What is kept of a script between two chunks.
 pub struct Reading {
@@ -16,4 +30,121 @@ pub struct Reading {
     pub line: [u8; 65],
     pub length: usize,
     pub machine: Machine,
+}
+
+// What a chunk leaves, and how many bytes of the output were written.
+pub struct Fed {
+    pub reading: Reading,
+    pub written: usize,
+}
+
+// Before the first byte.
+pub fn start(committed: &[u32], pending: &[u32]) -> Reading
+    requires { ⌜ (length (now committed) ≡ 64) × (length (now pending) ≡ 1024) ⌝ }
+    ensures fit { λ r. ⌜ Fit r (now (committed .entry)) (now (pending .entry)) ⌝ }
+    ensures whole { λ r. ⌜ ((bytes : List ℕ) → rest r (now (committed .entry)) (now (pending .entry)) bytes ≡ body (linesOf bytes)) ⌝ }
+{
+    Reading {
+        going: true,
+        columns: Columns {
+            call: 0,
+            core: 0,
+            card: 0,
+            value: 0,
+        },
+        number: 1,
+        line: [0; 65],
+        length: 0,
+        machine: Machine::blank(),
+    }
+}
+
+// The next bytes of the script. The output needs 32 bytes for each of them; what is written is what the chunk adds to the listing, and
+// the bytes after it keep what they held.
+pub fn feed(
+    r: Reading,
+    chunk: &[u8],
+    committed: &mut [u32],
+    pending: &mut [u32],
+    output: &mut [u8],
+) -> Fed
+    requires { ⌜ Fit r (now committed) (now pending) × (32 * length (now chunk) ≤ length (now output)) ⌝ }
+    ensures fit { λ o. ⌜ Fit (o .reading) (now (committed .exit)) (now (pending .exit)) ⌝ }
+    ensures listed { λ o. ⌜ ((bytes : List ℕ) → rest r (now (committed .entry)) (now (pending .entry)) (now (chunk .entry) ++ bytes) ≡ take (o .written) (now (output .exit)) ++ rest (o .reading) (now (committed .exit)) (now (pending .exit)) bytes) ⌝ }
+    ensures after { λ o. ⌜ (o .written ≤ 32 * length (now (chunk .entry))) × (drop (o .written) (now (output .exit)) ≡ drop (o .written) (now (output .entry))) ⌝ }
+{
+    let mut going = r.going;
+    let mut columns = r.columns;
+    let mut number = r.number;
+    let mut line = r.line;
+    let mut length = r.length;
+    let mut machine = r.machine;
+    let mut written = 0;
+    let mut i = 0;
+    while i < chunk.len() {
+        let b = chunk[i];
+        i += 1;
+        if b == b'\n' {
+            if going {
+                let done = end_line(
+                    columns,
+                    number,
+                    &line[..length],
+                    machine,
+                    committed,
+                    pending,
+                    &mut output[written..],
+                );
+                going = done.going;
+                columns = done.columns;
+                machine = done.machine;
+                number += 1;
+                length = 0;
+                written += done.written;
+            }
+        } else if length < 65 {
+            line[length] = b;
+            length += 1;
+        }
+    }
+    Fed {
+        reading: Reading {
+            going,
+            columns,
+            number,
+            line,
+            length,
+            machine,
+        },
+        written,
+    }
+}
+
+// The script's end: a line without its newline is a line. What is written is the rest of the listing, and the bytes after it keep what
+// they held.
+pub fn finish(r: Reading, committed: &mut [u32], pending: &mut [u32], output: &mut [u8]) -> usize
+    requires { ⌜ Fit r (now committed) (now pending) × (32 ≤ length (now output)) ⌝ }
+    ensures listed { λ n. ⌜ take n (now (output .exit)) ≡ rest r (now (committed .entry)) (now (pending .entry)) [] ⌝ }
+    ensures after { λ n. ⌜ (n ≤ 32) × (drop n (now (output .exit)) ≡ drop n (now (output .entry))) ⌝ }
+{
+    let length = r.length;
+    if r.going {
+        if length == 0 && r.number != 1 {
+            return 0;
+        }
+        let columns = r.columns;
+        let line = r.line;
+        end_line(
+            columns,
+            r.number,
+            &line[..length],
+            r.machine,
+            committed,
+            pending,
+            output,
+        )
+        .written
+    } else {
+        0
+    }
 }

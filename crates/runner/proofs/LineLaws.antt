@@ -14,12 +14,14 @@ use Rattle.script.specs.declared.Columns.{Columns}
 use Rattle.script.specs.declared.Names.{Names}
 use Rattle.script.specs.declared.Names.the-variants as Names
 use Rattle.script.specs.declared.Line.{Line}
+use Rattle.script.specs.declared.Line.the-variants as Line
+use Rattle.script.specs.declared.Call.{Call}
 use Rattle.script.specs.Pieces.{lines, pieces, onto, ended}
 use Rattle.script.specs.Line.{names, spells, fields, ordered, place}
 use Rattle.script.proofs.Laws.{free, too-long, names-too-long, lines-begun, lines-newline, lines-last, lines-empty, some-piece, first, others, rest-of-line, later-lines}
 use Rattle.decimal.specs.Spelling.{spelling}
 use Rattle.listing.specs.Text.{line, said}
-use Rattle.runner.specs.Listing.{nothing, answered, mostLines, listed, named, body}
+use Rattle.runner.specs.Listing.{nothing, called, answered, mostLines, listed, named, body}
 use Rattle.runner.specs.Kept.{next}
 
 -- ---- a line that has ended
@@ -30,21 +32,23 @@ unfolding line
 line-said n a b e = ap (λ (x : List ℕ). spelling n ++ x) e
 
 module _ (at : Columns) (w : World) (l : List ℕ) (ls : List (List ℕ)) where
-  pub names-good : (at′ : Columns) → names l ≡ Names.Order at′ → w ≡ nothing → next true at 1 w (l ∷ ls) ≡ next true at′ 2 w ls
+  pub names-good : (at′ : Columns) → names l ≡ Names.Order at′ → next true at 1 w (l ∷ ls) ≡ next true at′ 2 nothing ls
   unfolding next body named
-  names-good at′ e blank = rw (e, blank) refl
+  names-good at′ e = rw e refl
 
-  pub names-bad : names l ≡ Names.Malformed → next true at 1 w (l ∷ ls) ≡ line 1 (Refused 11) ++ next false at 2 w ls
+  -- here and below, `text` is what the output holds
+  pub names-bad : (text : List ℕ) → text ≡ line 1 (Refused 11) → names l ≡ Names.Malformed → next true at 1 w (l ∷ ls) ≡ text ++ next false at 2 w ls
   unfolding next body named
-  names-bad e = rw e (sym (append-nil (line 1 (Refused 11))))
+  names-bad text t e = rw (e, append-nil text) (sym t)
 
   module _ (n : ℕ) (later : 1 < n) where
     not-first : eqb n 1 ≡ false
     not-first = ne-eqb n 1 (λ e. omega (arith, later, e))
 
-    pub past-most : mostLines < n → next true at n w (l ∷ ls) ≡ line n (Refused 11) ++ next false at (n + 1) w ls
+    pub past-most : (text : List ℕ) → text ≡ line n (Refused 11) → mostLines < n
+        → next true at n w (l ∷ ls) ≡ text ++ next false at (n + 1) w ls
     unfolding next listed
-    past-most h = rw (not-first, lt-ltb mostLines n h) (sym (append-nil (line n (Refused 11))))
+    past-most text t h = rw (not-first, lt-ltb mostLines n h, append-nil text) (sym t)
 
     pub line-run : n ≤ mostLines
         → next true at n w (l ∷ ls)
@@ -54,6 +58,25 @@ module _ (at : Columns) (w : World) (l : List ℕ) (ls : List (List ℕ)) where
       where
         after : (ls : List (List ℕ)) → next true at (n + 1) (answered w (spells at l) .world) ls ≡ listed at (answered w (spells at l) .world) (n + 1) ls
         after ls = rw (ne-eqb (n + 1) 1 (λ e. omega (arith, later, e))) refl
+
+-- the line of names, as line n of a blank record
+pub first-ends : (at at′ : Columns) (going : Bool) (n : ℕ) (w w′ : World) (l text : List ℕ) (ls : List (List ℕ)) → n ≡ 1 → w ≡ nothing
+    → w′ ≡ nothing → next true at 1 nothing (l ∷ ls) ≡ text ++ next going at′ 2 nothing ls
+    → next true at n w (l ∷ ls) ≡ text ++ next going at′ (n + 1) w′ ls
+first-ends at at′ going n w w′ l text ls one blank blank′ e = rw (one, blank, blank′) e
+
+-- a line that spells no call, and one that does
+module _ (at : Columns) (w : World) (l : List ℕ) (ls : List (List ℕ)) (n : ℕ) (later : 1 < n) (few : n ≤ mostLines) where
+  pub line-malformed : (text : List ℕ) → text ≡ line n (Refused 11) → spells at l ≡ Line.Malformed
+      → next true at n w (l ∷ ls) ≡ text ++ next true at (n + 1) w ls
+  unfolding answered
+  line-malformed text t e = line-run at w l ls n later few ∙ rw (e, t) refl
+
+  pub line-called : (text : List ℕ) (call : Call) (a : Answer) (w′ : World) → text ≡ line n a → spells at l ≡ Line.Spells call
+      → said a ≡ said (called w call .answer) → w′ ≡ called w call .world → next true at n w (l ∷ ls) ≡ text ++ next true at (n + 1) w′ ls
+  unfolding answered
+  line-called text call a w′ t e says after =
+      line-run at w l ls n later few ∙ rw (e, after, t, line-said n a (called w call .answer) says) refl
 
 -- ---- a byte more of a line that has not ended
 
