@@ -5,3 +5,4 @@ mod Sizes
 mod ByCall
 mod LineLaws
 mod Written
+mod Feeding

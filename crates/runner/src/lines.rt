@@ -94,7 +94,7 @@ pub fn end_line(
 ) -> Ended
     requires { ⌜ Held m (now committed) (now pending) × (32 ≤ length (now output)) × (0 < number) × (number ≡ 1 → m ≡ blank) ⌝ }
     ensures lines { λ r. ⌜ ((ls : List (List ℕ)) → next true columns number (held m (now (committed .entry)) (now (pending .entry))) (now (line .entry) ∷ ls) ≡ take (r .written) (now (output .exit)) ++ next (r .going) (r .columns) (number + 1) (held (r .machine) (now (committed .exit)) (now (pending .exit))) ls) ⌝ }
-    ensures after { λ r. ⌜ Held (r .machine) (now (committed .exit)) (now (pending .exit)) × (r .written ≤ 32) × (drop (r .written) (now (output .exit)) ≡ drop (r .written) (now (output .entry))) ⌝ }
+    ensures after { λ r. ⌜ Held (r .machine) (now (committed .exit)) (now (pending .exit)) × (r .written ≤ 32) × (drop (r .written) (now (output .exit)) ≡ drop (r .written) (now (output .entry))) × (r .going ≡ true → number ≤ mostLines) ⌝ }
 {
     if number == 1 {
         return first_line(columns, line, m, output);

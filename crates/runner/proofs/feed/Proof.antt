@@ -1,116 +1,119 @@
+-- `runner::feed` meets its contract. The loop's invariant is `Feeding`; the measure is what is left of the chunk. Assumes nothing.
+use mathlib.Core.Path.{_≡_, sym, subst, _∙_}
+use Prim.Native.Nat.{ℕ, _-_, _≤_, _<_}
+use native.Mathlib.Omega.{arith}
+use lib.ListN as Nat
+use lib.Seq.{length-take-le}
+use borrow.Author.Needs.{needs}
+use Rattle.runner.proofs.Feeding.{reading, Feeding, feeding-starts, feeding-skips, feeding-loses, feeding-keeps, line-ends, part-room, room-left, feeding-done}
 use Rattle.runner.proofs.feed.Statement.{statement}
 use Rattle.runner.proofs.feed.Tie as tie
-use Rattle.runner.proofs.feed.Reads as reads
-use Rattle.runner.proofs.feed.Lts as lts
-use Rattle.runner.proofs.lines.end_line.Reads as end-line-reads
 
 abbrev Inv-loop : tie.InvT-loop
 Inv-loop chunk committed₀ pending₀ output₀ going₀ columns₀ number₀ line₀ length₀ machine₀ written₀ i₀ committed pending output going columns number line length machine written i =
-    ?
+    Feeding (reading going₀ columns₀ number₀ line₀ length₀ machine₀) committed₀ pending₀ output₀ chunk
+    (reading going columns number line length machine) committed pending output written i
 
 abbrev μ-loop : tie.MeasureT-loop
 μ-loop chunk committed₀ pending₀ output₀ going₀ columns₀ number₀ line₀ length₀ machine₀ written₀ i₀ committed pending output going columns number line length machine written i =
-    ?
+    Nat.length chunk - i
 
--- src/lib.rt:84:5
 loop-holds : tie.Need-loop-holds Inv-loop μ-loop
-loop-holds c = ?
+loop-holds c = feeding-starts _ _ _ _ _ (c .before .before .before .before .before .before .before .pre .0)
 
--- src/lib.rt:85:17
 shared-slice-read-b : tie.Need-shared-slice-read-b Inv-loop μ-loop
-shared-slice-read-b c = ?
+shared-slice-read-b c = c .before .loop-test .taken
 
--- src/lib.rt:86:9
 add-i : tie.Need-add-i Inv-loop μ-loop
-add-i c = ?
+add-i c = search needs
 
--- src/lib.rt:92:21
 array-share-prefix-line : tie.Need-array-share-prefix-line Inv-loop μ-loop
-array-share-prefix-line c = ?
+array-share-prefix-line c =
+    let fit = c .before .before .before .before .loop .inv .fit in
+    subst (λ (n : ℕ). c .before .before .before .before .loop .length ≤ n) (sym (fit .line-long)) (fit .few-bytes)
 
--- src/lib.rt:92:21
 slice-aggregate-end-line : tie.Need-slice-aggregate-end-line Inv-loop μ-loop
-slice-aggregate-end-line c = ?
+slice-aggregate-end-line c = sym (length-take-le _ _ (array-share-prefix-line (c .before)))
 
--- src/lib.rt:96:21
 sub-end-line : tie.Need-sub-end-line Inv-loop μ-loop
-sub-end-line c = ?
+sub-end-line c =
+    let at = c .before .before .before .before .before .before .before in
+    omega (arith, room-left (at .loop .inv) (c .before .before .before .before .before .before .loop-test .taken) (at .before .before .before .before .before .before .before .before .pre .1))
 
--- src/lib.rt:96:21
 part-end-line-start : tie.Need-part-end-line-start Inv-loop μ-loop
-part-end-line-start c = ?
+part-end-line-start c = search needs
 
--- src/lib.rt:96:21
 part-end-line-end : tie.Need-part-end-line-end Inv-loop μ-loop
-part-end-line-end c = ?
+part-end-line-end c = search needs
 
--- src/lib.rt:89:21
 end-line-requires : tie.Need-end-line-requires Inv-loop μ-loop
-end-line-requires c κs = ?
+end-line-requires c κs =
+    let at = c .before .before .before .before .before .before .before .before in
+    let fit = at .loop .inv .fit in
+    (fit .holds, part-room (at .loop .output) (at .loop .written) (room-left (at .loop .inv) (c .before .before .before .before .before .before .before .loop-test .taken) (at .before .before .before .before .before .before .before .before .pre .1)), fit .some-line, fit .first-blank)
 
--- src/lib.rt:101:17
 add-number : tie.Need-add-number Inv-loop μ-loop
-add-number c = ?
+add-number c =
+    let at = c .before .before .before .before .before .before .before .before .before .before .before .before .before .before .before .before .before in
+    record { fits = omega (arith, at .loop .inv .fit .few-lines (c .before .before .before .before .before .before .before .before .before .before .before .before .before .if2 .taken)) }
 
--- src/lib.rt:103:17
 add-written : tie.Need-add-written Inv-loop μ-loop
-add-written c = ?
+add-written c =
+    let at = c .before .before .before .before .before .before .before .before .before .before .before .before .before .before .before .before .before .before in
+    let done = c .before .before .before .before .before .before .before .before .before in
+    record { fits = omega (arith, done .end-line .ensures .1 .1, room-left (at .loop .inv) (c .before .before .before .before .before .before .before .before .before .before .before .before .before .before .before .before .before .loop-test .taken) (at .before .before .before .before .before .before .before .before .pre .1), at .before .before .before .before .before .before .before .before .good .1 .1 .1 .1 .0 .0, at .loop .inv .out-long) }
 
--- src/lib.rt:84:5
 loop-less : tie.Need-loop-less Inv-loop μ-loop
-loop-less c = ?
+loop-less c = omega (arith, c .before .before .before .before .before .before .before .before .before .before .before .before .before .before .before .before .before .loop-test .taken)
 
--- src/lib.rt:84:5
 loop-again : tie.Need-loop-again Inv-loop μ-loop
-loop-again c = ?
+loop-again c =
+    let at = c .before .before .before .before .before .before .before .before .before .before .before .before .before .before .before .before .before .before in
+    let done = c .before .before .before .before .before .before .before .before .before in
+    line-ends _ _ _ _ _ _ _ _ _ _ _ (at .loop .inv) (c .before .before .before .before .before .before .before .before .before .before .before .before .before .before .before .before .before .loop-test .taken) (c .before .before .before .before .before .before .before .before .before .before .before .before .before .before .before .if1 .taken) (c .before .before .before .before .before .before .before .before .before .before .before .before .before .before .if2 .taken)
+    (done .end-line .result) _ _ _ (done .end-line .ensures .0) (done .end-line .ensures .1) (done .end-line .kept .1 .1 .1 .1 .1 .1 .0)
+    (sub-end-line (c .before .before .before .before .before .before .before .before .before .before .before))
 
--- src/lib.rt:84:5
 loop-less-2 : tie.Need-loop-less-2 Inv-loop μ-loop
-loop-less-2 c = ?
+loop-less-2 c = omega (arith, c .before .before .before .loop-test .taken)
 
--- src/lib.rt:84:5
 loop-again-2 : tie.Need-loop-again-2 Inv-loop μ-loop
-loop-again-2 c = ?
+loop-again-2 c =
+    feeding-skips _ _ _ _ _ _ _ _ _ _ _ (c .before .before .before .before .loop .inv) (c .before .before .before .loop-test .taken) (c .if2 .left)
 
--- src/lib.rt:106:13
 array-write-line : tie.Need-array-write-line Inv-loop μ-loop
-array-write-line c = ?
+array-write-line c = c .if3 .taken
 
--- src/lib.rt:107:13
 add-length : tie.Need-add-length Inv-loop μ-loop
-add-length c = ?
+add-length c = search needs
 
--- src/lib.rt:84:5
 loop-less-3 : tie.Need-loop-less-3 Inv-loop μ-loop
-loop-less-3 c = ?
+loop-less-3 c = omega (arith, c .before .before .before .loop-test .taken)
 
--- src/lib.rt:84:5
 loop-again-3 : tie.Need-loop-again-3 Inv-loop μ-loop
-loop-again-3 c = ?
+loop-again-3 c =
+    feeding-keeps _ _ _ _ _ _ _ _ _ _ _ (c .before .before .before .before .loop .inv) (c .before .before .before .loop-test .taken) (c .before .if1 .left) (c .if3 .taken)
 
--- src/lib.rt:84:5
 loop-less-4 : tie.Need-loop-less-4 Inv-loop μ-loop
-loop-less-4 c = ?
+loop-less-4 c = omega (arith, c .before .before .before .loop-test .taken)
 
--- src/lib.rt:84:5
 loop-again-4 : tie.Need-loop-again-4 Inv-loop μ-loop
-loop-again-4 c = ?
+loop-again-4 c =
+    feeding-loses _ _ _ _ _ _ _ _ _ _ _ (c .before .before .before .before .loop .inv) (c .before .before .before .loop-test .taken) (c .before .if1 .left) (c .if3 .left)
 
--- src/lib.rt:64:1
 same-length : tie.Need-same-length Inv-loop μ-loop
-same-length c = ?
+same-length c = c .before .loop .inv .fit .holds .committed-long ∙ sym (c .before .before .before .before .before .before .before .before .before .pre .0 .holds .committed-long)
 
--- src/lib.rt:64:1
 same-length-2 : tie.Need-same-length-2 Inv-loop μ-loop
-same-length-2 c = ?
+same-length-2 c = c .before .loop .inv .fit .holds .pending-long ∙ sym (c .before .before .before .before .before .before .before .before .before .pre .0 .holds .pending-long)
 
--- src/lib.rt:64:1
 same-length-3 : tie.Need-same-length-3 Inv-loop μ-loop
-same-length-3 c = ?
+same-length-3 c = c .before .loop .inv .out-long
 
--- src/lib.rt:64:1
 returns : tie.Need-returns Inv-loop μ-loop
-returns c = ?
+returns c =
+    let inv = c .before .loop .inv in
+    (inv .fit, (feeding-done inv (c .loop-test .left), (omega (arith, inv .room, inv .within), inv .after)))
 
 pub feed-spec : {M : Type 1} → statement M
 feed-spec =
