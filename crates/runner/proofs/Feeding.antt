@@ -51,7 +51,7 @@ feeding-starts r cs ps out chunk f =
     record { fit = f; within = omega arith; room = omega arith; out-long = refl; listed = λ bytes. refl; after = refl }
 
 module _ (r₀ : Reading) (cs₀ ps₀ out₀ chunk : List ℕ) (r : Reading) (cs ps out : List ℕ) (written i : ℕ)
-         (f : Feeding r₀ cs₀ ps₀ out₀ chunk r cs ps out written i) (h : i < length chunk) where
+    (f : Feeding r₀ cs₀ ps₀ out₀ chunk r cs ps out written i) (h : i < length chunk) where
   -- the chunk's next byte
   abbrev b : ℕ
   b = getD chunk i 0
@@ -183,7 +183,7 @@ pub room-left : {r₀ : Reading} {cs₀ ps₀ out₀ chunk : List ℕ} {r : Read
 room-left f h room = omega (arith, f .room, f .out-long, h, room)
 
 module _ (r₀ : Reading) (cs₀ ps₀ out₀ chunk : List ℕ) (r : Reading) (cs ps out : List ℕ) (written i : ℕ)
-         (f : Feeding r₀ cs₀ ps₀ out₀ chunk r cs ps out written i) (h : i < length chunk) where
+    (f : Feeding r₀ cs₀ ps₀ out₀ chunk r cs ps out written i) (h : i < length chunk) where
   pub line-ends : getD chunk i 0 ≡ 10 → r .going ≡ true → (d : Ended) (cs′ ps′ part : List ℕ)
       → ((ls : List (List ℕ))
       → next true (r .columns) (r .number) (held (r .machine) cs ps) (begun r ∷ ls)

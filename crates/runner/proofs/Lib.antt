@@ -6,3 +6,4 @@ mod ByCall
 mod LineLaws
 mod Written
 mod Feeding
+mod Finishing

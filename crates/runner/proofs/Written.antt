@@ -23,10 +23,10 @@ use Rattle.listing.proofs.Laws.{line-short}
 pub written : (n : ℕ) (a : Answer) (out out′ : List ℕ) (k : ℕ) → 32 ≤ length out → k ≡ length (fitting (line n a) out)
     → out′ ≡ put (line n a) out → (take k out′ ≡ line n a) × (k ≤ 32) × (drop k out′ ≡ drop k out)
 written n a out out′ k room count bytes = (
-      ap (take k) whole ∙ take-at (line n a) (drop (length (line n a)) out) k (sym long),
-      subst (λ (x : ℕ). x ≤ 32) (sym long) (line-short n a),
-      ap (drop k) whole ∙ drop-at (line n a) (drop (length (line n a)) out) k (sym long) ∙ ap (λ (x : ℕ). drop x out) (sym long),
-    )
+  ap (take k) whole ∙ take-at (line n a) (drop (length (line n a)) out) k (sym long),
+  subst (λ (x : ℕ). x ≤ 32) (sym long) (line-short n a),
+  ap (drop k) whole ∙ drop-at (line n a) (drop (length (line n a)) out) k (sym long) ∙ ap (λ (x : ℕ). drop x out) (sym long),
+)
   where
     fits : fitting (line n a) out ≡ line n a
     fits = unfold fitting in rw (le-ltb (length out) 32 room) refl

@@ -7,7 +7,8 @@ use crate::lines::end_line;
 use machine::Machine;
 use script::Columns;
 ghost use mathlib.Core.Path.{_≡_};
-ghost use mathlib.Core.Bool.{true};
+ghost use mathlib.Core.Bool.{_||_};
+ghost use lib.Dec.{eqb, ltb};
 ghost use mathlib.Core.List.{List, [], _++_};
 ghost use Prim.Native.Nat.{ℕ, _*_, _≤_};
 ghost use lib.ListN.{length, take, drop, replicate};
@@ -120,6 +121,16 @@ pub fn feed(
     }
 }
 
+// Whether a line is left at the script's end: the line of names, even with no byte, or a line that has a byte.
+fn line_left(number: u32, length: usize) -> bool
+    ensures { λ r. ⌜ r ≡ (eqb number 1 || ltb 0 length) ⌝ }
+{
+    if number == 1 {
+        return true;
+    }
+    0 < length
+}
+
 // The script's end: a line without its newline is a line. What is written is the rest of the listing, and the bytes after it keep what
 // they held.
 pub fn finish(r: Reading, committed: &mut [u32], pending: &mut [u32], output: &mut [u8]) -> usize
@@ -129,21 +140,21 @@ pub fn finish(r: Reading, committed: &mut [u32], pending: &mut [u32], output: &m
 {
     let length = r.length;
     if r.going {
-        if length == 0 && r.number != 1 {
-            return 0;
+        if line_left(r.number, length) {
+            let columns = r.columns;
+            let line = r.line;
+            end_line(
+                columns,
+                r.number,
+                &line[..length],
+                r.machine,
+                committed,
+                pending,
+                output,
+            ).written
+        } else {
+            0
         }
-        let columns = r.columns;
-        let line = r.line;
-        end_line(
-            columns,
-            r.number,
-            &line[..length],
-            r.machine,
-            committed,
-            pending,
-            output,
-        )
-        .written
     } else {
         0
     }

@@ -65,7 +65,7 @@ to-value-short n a = rw length-append (omega (arith, to-word-short n a, value-sh
 
 word-stands : (c : tie.After-put-bytes)
     → Stands (number (start (c .before .before .before .before .before)) ++ spaced (start (c .before .before .before .before .before) .args .answer)) (output (start (c .before .before .before .before .before)))
-        (c .before .before .before .before .before .put-number .result + c .put-bytes .result) (c .put-bytes .last .0)
+    (c .before .before .before .before .before .put-number .result + c .put-bytes .result) (c .put-bytes .last .0)
 word-stands c =
     let first = c .before .before .before .before .before in
     let n = start first .args .number in
@@ -75,7 +75,7 @@ word-stands c =
 
 value-stands : (c : tie.After-put-field)
     → Stands (number (start (to-number c)) ++ spaced (start (to-number c) .args .answer) ++ value (start (to-number c) .args .answer)) (output (start (to-number c)))
-        (to-number c .put-number .result + to-word c .put-bytes .result + c .put-field .result) (c .put-field .last .1 .0)
+    (to-number c .put-number .result + to-word c .put-bytes .result + c .put-field .result) (c .put-field .last .1 .0)
 value-stands c =
     let n = start (to-number c) .args .number in
     let a = start (to-number c) .args .answer in
@@ -84,7 +84,7 @@ value-stands c =
 
 line-stands : (c : tie.After-put-bytes2)
     → Stands (line (start (to-number (to-value c)) .args .number) (start (to-number (to-value c)) .args .answer)) (output (start (to-number (to-value c))))
-        (to-number (to-value c) .put-number .result + to-word (to-value c) .put-bytes .result + to-value c .put-field .result + c .put-bytes2 .result) (c .put-bytes2 .last .0)
+    (to-number (to-value c) .put-number .result + to-word (to-value c) .put-bytes .result + to-value c .put-field .result + c .put-bytes2 .result) (c .put-bytes2 .last .0)
 line-stands c =
     let n = start (to-number (to-value c)) .args .number in
     let a = start (to-number (to-value c)) .args .answer in

@@ -1,17 +1,30 @@
+-- `runner::start` meets its contract: no byte is read, and the record is blank. Assumes nothing.
+use mathlib.Core.Path.{refl}
+use mathlib.Core.Logic.{inl}
+use native.Mathlib.Omega.{arith}
 use borrow.Author.Needs.{needs}
+use Rattle.script.proofs.Laws.{free}
+use Rattle.runner.proofs.Finishing.{whole-script}
 use Rattle.runner.proofs.start.Statement.{statement}
 use Rattle.runner.proofs.start.Tie as tie
-use Rattle.runner.proofs.start.Reads as reads
-use Rattle.runner.proofs.start.Lts as lts
-use Rattle.machine.proofs.Machine.blank.Reads as blank-reads
 
--- src/lib.rt:58:18
 blank-requires : tie.Need-blank-requires
 blank-requires c κs = search needs
 
--- src/lib.rt:42:1
 returns : tie.Need-returns
-returns c = ?
+returns c =
+    let start = c .before .before .before in (
+      record {
+        holds = record { committed-long = start .pre .0; pending-long = start .pre .1; blank-or-good = inl (c .blank .ensures) };
+        line-long = refl;
+        few-bytes = omega arith;
+        no-newline = unfold free in refl;
+        some-line = omega arith;
+        few-lines = λ e. omega arith;
+        first-blank = λ e. c .blank .ensures;
+      },
+      whole-script _ _ _ refl refl refl,
+    )
 
 pub start-spec : {M : Type 1} → statement M
 start-spec = tie.close (tie.spec blank-requires returns)

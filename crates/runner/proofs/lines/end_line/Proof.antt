@@ -30,10 +30,10 @@ returns c =
     let cs = now (start .args .committed) in
     let ps = now (start .args .pending) in (
       λ ls.
-      first-ends (start .args .columns) (done .first-line .result .columns) (done .first-line .result .going) (start .args .number)
-      (held (start .args .m) cs ps) (held (done .first-line .result .machine) cs ps) (now (start .args .line))
-      (take (done .first-line .result .written) (done .first-line .last .1 .1 .1 .0)) ls (then1 .if1 .taken) (ap (λ (x : Machine). held x cs ps) blanked)
-      (ap (λ (x : Machine). held x cs ps) (same ∙ blanked)) (done .first-line .ensures .0 ls),
+          first-ends (start .args .columns) (done .first-line .result .columns) (done .first-line .result .going) (start .args .number)
+          (held (start .args .m) cs ps) (held (done .first-line .result .machine) cs ps) (now (start .args .line))
+          (take (done .first-line .result .written) (done .first-line .last .1 .1 .1 .0)) ls (then1 .if1 .taken) (ap (λ (x : Machine). held x cs ps) blanked)
+          (ap (λ (x : Machine). held x cs ps) (same ∙ blanked)) (done .first-line .ensures .0 ls),
       (subst (λ (x : Machine). Held x cs ps) (sym same) (start .pre .0), done .first-line .ensures .1 .1, done .first-line .ensures .1 .2, λ e. omega (arith, then1 .if1 .taken)),
     )
 

@@ -56,7 +56,7 @@ returns-2 c =
     let put = written (start .args .number) _ _ _ _ (start .pre .1) (done .put-line2 .ensures .0) (done .put-line2 .ensures .1) in
     let spelt = sym (ran .before .before .before .before .before .before .parse .ensures) ∙ ran .before .before .before .before .call .given .1 in (
       λ ls.
-      line-called _ _ _ ls _ (start .pre .2) (start .pre .3) _ _ _ _ (put .0) spelt (ran .run-call .ensures .0) (ran .run-call .ensures .1 .0),
+          line-called _ _ _ ls _ (start .pre .2) (start .pre .3) _ _ _ _ (put .0) spelt (ran .run-call .ensures .0) (ran .run-call .ensures .1 .0),
       (ran .run-call .ensures .1 .1, put .1, put .2),
     )
 

@@ -130,7 +130,7 @@ returns-9 c = c .named8 .ensures ∙ rw (led (F (c .before .before .before .befo
 
 -- src/calls.rt:32:1
 returns-10 : tie.Need-returns-10
-returns-10 c = 
+returns-10 c =
     let r = c .match .rest in
     sym (unknown-verb _ (c .before .before .if1 .left) (r .0 .0 .0 .0 .0 .0 .1) (r .0 .0 .0 .0 .0 .1) (r .0 .0 .0 .0 .1) (r .0 .0 .0 .1) (r .0 .0 .1) (r .0 .1) (r .1))
 

@@ -39,7 +39,7 @@ field-end-requires-3 c κs = search needs
 -- src/fields.rt:46:9
 returns-2 : tie.Need-returns-2
 unfolding Parted
-returns-2 c = 
+returns-2 c =
     let ended = c .before in
     under _ (ended .before .before .before .if1 .left) _ _ _ (ended .before .before .field-end .ensures) (ended .before .field-end2 .ensures)
     (ended .field-end3 .ensures) (c .if2 .taken)
@@ -55,7 +55,7 @@ field-end-requires-4 c κs = search needs
 -- src/fields.rt:49:9
 returns-3 : tie.Need-returns-3
 unfolding Parted
-returns-3 c = 
+returns-3 c =
     let ended = c .before .before .before in
     over _ (ended .before .before .before .if1 .left) _ _ _ (ended .before .before .field-end .ensures) (ended .before .field-end2 .ensures)
     (ended .field-end3 .ensures) (c .before .before .if2 .left) (omega arith)
@@ -63,7 +63,7 @@ returns-3 c =
 -- src/fields.rt:36:1
 returns-4 : tie.Need-returns-4
 unfolding Parted
-returns-4 c = 
+returns-4 c =
     let ended = c .before .before .before in
     let past-first = not-before _ _ _ (ended .before .field-end2 .ensures) in
     let past-second = not-before _ _ _ (ended .field-end3 .ensures) in

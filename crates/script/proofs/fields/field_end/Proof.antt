@@ -32,7 +32,7 @@ abbrev L : tie.In-loop Inv-loop μ-loop → List ℕ
 L c = now (c .before .before .args .line)
 
 returns : tie.Need-returns Inv-loop μ-loop
-returns c = 
+returns c =
     let turn = c .before .before in
     sym (ends-here (L turn) (turn .before .loop .i) (turn .loop-test .taken) (c .if1 .taken)) ∙ turn .before .loop .inv
 
@@ -46,13 +46,13 @@ loop-less c = omega arith
 
 -- src/fields.rt:26:5
 loop-again : tie.Need-loop-again Inv-loop μ-loop
-loop-again c = 
+loop-again c =
     let turn = c .before .before in
     sym (goes-on (L turn) (turn .before .loop .i) (turn .loop-test .taken) (c .if1 .left)) ∙ turn .before .loop .inv
 
 -- src/fields.rt:22:1
 returns-2 : tie.Need-returns-2 Inv-loop μ-loop
-returns-2 c = 
+returns-2 c =
     let at = c .before in
     sym (line-ends (now (at .before .args .line)) (at .loop .i) (c .loop-test .left)) ∙ at .loop .inv
 

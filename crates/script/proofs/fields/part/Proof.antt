@@ -84,7 +84,7 @@ returns-3 c = rw (c .before .before .pre .parts, c .before .match .keys3)
 
 -- src/fields.rt:55:1
 returns-4 : tie.Need-returns-4
-returns-4 c = 
+returns-4 c =
     let start = c .before .before in
     let rest = start .args .s .2 + 1 in
     rw (start .pre .parts, c .before .match .keys4)
@@ -92,7 +92,7 @@ returns-4 c =
 
 -- src/fields.rt:55:1
 returns-5 : tie.Need-returns-5
-returns-5 c = 
+returns-5 c =
     let start = c .before .before in
     sym (List·getD-eq-default (fields (now (start .args .line))) [] (omega (arith, ap length (start .pre .parts))))
 

@@ -43,7 +43,7 @@ abbrev B : tie.In-loop Inv-loop μ-loop → List ℕ
 B c = now (c .before .before .before .args .b)
 
 returns-2 : tie.Need-returns-2 Inv-loop μ-loop
-returns-2 c = 
+returns-2 c =
     let turn = c .before .before .before in
     let at = turn .before .loop in
     sym (differ (A turn) (B turn) (at .i) (turn .loop-test .taken) (omega arith) (c .if2 .taken)) ∙ at .inv .2
@@ -58,7 +58,7 @@ loop-less c = omega arith
 
 -- src/fields.rt:79:5
 loop-again : tie.Need-loop-again Inv-loop μ-loop
-loop-again c = 
+loop-again c =
     let turn = c .before .before .before in
     let at = turn .before .loop in (
       at .inv .0,
@@ -68,7 +68,7 @@ loop-again c =
 
 -- src/fields.rt:72:1
 returns-3 : tie.Need-returns-3 Inv-loop μ-loop
-returns-3 c = 
+returns-3 c =
     let at = c .before .loop in
     sym (same-end _ _ (at .i) (c .loop-test .left) (omega arith)) ∙ at .inv .2
 

@@ -79,7 +79,7 @@ size p =
 
 returns-2 : tie.Need-returns-2
 unfolding names
-returns-2 c = 
+returns-2 c =
     let p = c .before .before .before .before in
     rw (p .before .before .before .before .before .before .place .ensures, p .before .before .before .before .place2 .ensures, p .before .before .place3 .ensures, p .place4 .ensures)
     (sym (all-stand (F p) (size p) (omega (arith, ltb-true)) (omega (arith, ltb-true)) (omega (arith, ltb-true)) (omega (arith, ltb-true))))
@@ -87,7 +87,7 @@ returns-2 c =
 -- src/heading.rt:14:1
 returns-3 : tie.Need-returns-3
 unfolding names
-returns-3 c = 
+returns-3 c =
     let p = c .before in
     sym (one-missing (F p) (size p) (λ h1 h2 h3 h4. ⊎-elim (λ w. omega (arith, ltb-false)) (⊎-elim (λ w. omega (arith, ltb-false)) (⊎-elim (λ w. omega (arith, ltb-false)) (λ w. omega arith))) (c .if1 .came)))
 

@@ -44,7 +44,7 @@ abbrev F : tie.In-loop Inv-loop μ-loop → List (List ℕ)
 F c = fields (now (c .before .before .before .before .args .line))
 
 returns : tie.Need-returns Inv-loop μ-loop
-returns c = 
+returns c =
     let turn = c .before .before .before in
     let at = turn .before .loop in
     let start = turn .before .before .before .before in
@@ -61,7 +61,7 @@ loop-less c = omega arith
 
 -- src/heading.rt:36:5
 loop-again : tie.Need-loop-again Inv-loop μ-loop
-loop-again c = 
+loop-again c =
     let turn = c .before .before .before in
     let at = turn .before .loop in
     let start = turn .before .before .before .before in
@@ -70,7 +70,7 @@ loop-again c =
 
 -- src/heading.rt:31:1
 returns-2 : tie.Need-returns-2 Inv-loop μ-loop
-returns-2 c = 
+returns-2 c =
     let at = c .before in
     let start = at .before .before .before in
     sym (nowhere _ _ (at .loop .i) (omega (arith, ap length (start .pre .parts)))) ∙ at .loop .inv .1
