@@ -12,15 +12,9 @@ use Rattle.decimal.specs.Spelling.{spelling}
 use Rattle.decimal.proofs.Laws.{spelling-length}
 use Rattle.machine.specs.declared.Answer.{Answer}
 use Rattle.listing.specs.Text.{spaced, value, said, line}
-use Rattle.listing.proofs.Laws.{line-short, spaced-short, value-short, fitting-short, put-short, Stands, stands-none, stands-next, stands-length, stands-put}
+use Rattle.listing.proofs.Laws.{line-short, spaced-short, value-short, nothing-put, Stands, stands-none, stands-next, stands-length, stands-put}
 use Rattle.listing.proofs.put_line.Statement.{statement}
 use Rattle.listing.proofs.put_line.Tie as tie
-use Rattle.listing.proofs.put_line.Reads as reads
-use Rattle.listing.proofs.put_line.Lts as lts
-use Rattle.listing.proofs.put_bytes.Reads as put-bytes-reads
-use Rattle.listing.proofs.put_field.Reads as put-field-reads
-use Rattle.listing.proofs.put_number.Reads as put-number-reads
-use Rattle.listing.proofs.said_of.Reads as said-of-reads
 
 -- the four texts are the line
 parts : (n : ℕ) (a : Answer) → spelling n ++ spaced a ++ value a ++ (10 ∷ []) ≡ line n a
@@ -65,7 +59,7 @@ to-value-short n a = rw length-append (omega (arith, to-word-short n a, value-sh
 
 word-stands : (c : tie.After-put-bytes)
     → Stands (number (start (c .before .before .before .before .before)) ++ spaced (start (c .before .before .before .before .before) .args .answer)) (output (start (c .before .before .before .before .before)))
-        (c .before .before .before .before .before .put-number .result + c .put-bytes .result) (c .put-bytes .last .0)
+    (c .before .before .before .before .before .put-number .result + c .put-bytes .result) (c .put-bytes .last .0)
 word-stands c =
     let first = c .before .before .before .before .before in
     let n = start first .args .number in
@@ -75,7 +69,7 @@ word-stands c =
 
 value-stands : (c : tie.After-put-field)
     → Stands (number (start (to-number c)) ++ spaced (start (to-number c) .args .answer) ++ value (start (to-number c) .args .answer)) (output (start (to-number c)))
-        (to-number c .put-number .result + to-word c .put-bytes .result + c .put-field .result) (c .put-field .last .1 .0)
+    (to-number c .put-number .result + to-word c .put-bytes .result + c .put-field .result) (c .put-field .last .1 .0)
 value-stands c =
     let n = start (to-number c) .args .number in
     let a = start (to-number c) .args .answer in
@@ -84,52 +78,43 @@ value-stands c =
 
 line-stands : (c : tie.After-put-bytes2)
     → Stands (line (start (to-number (to-value c)) .args .number) (start (to-number (to-value c)) .args .answer)) (output (start (to-number (to-value c))))
-        (to-number (to-value c) .put-number .result + to-word (to-value c) .put-bytes .result + to-value c .put-field .result + c .put-bytes2 .result) (c .put-bytes2 .last .0)
+    (to-number (to-value c) .put-number .result + to-word (to-value c) .put-bytes .result + to-value c .put-field .result + c .put-bytes2 .result) (c .put-bytes2 .last .0)
 line-stands c =
     let n = start (to-number (to-value c)) .args .number in
     let a = start (to-number (to-value c)) .args .answer in
     let done = c .put-bytes2 .ensures in
     rw parts at (stands-next (10 ∷ []) (value-stands (to-value c)) (omega (arith, to-value-short n a)) (done .0) (done .1))
 
--- src/lib.rt:32:9
 returns : tie.Need-returns
 returns c =
     let args = c .before .before .args in
-    let text = line (args .number) (args .answer) in
-    (ap length (sym (fitting-short text (now (args .output)) (omega arith))), sym (put-short text (now (args .output)) (omega arith)))
+    nothing-put (line (args .number) (args .answer)) (now (args .output)) (omega arith)
 
--- src/lib.rt:34:9
 said-of-requires : tie.Need-said-of-requires
 said-of-requires c κs = search needs
 
--- src/lib.rt:38:9
 put-number-requires : tie.Need-put-number-requires
 put-number-requires c κs = search needs
 
--- src/lib.rt:39:31
 array-share-prefix-text : tie.Need-array-share-prefix-text
 array-share-prefix-text c =
     let said = c .before .before .before .before .before .before in
     omega (arith, said .said-of .ensures .0, ap length (lent said), length-take (said .said-of .result .1) (said .said-of .result .0))
 
--- src/lib.rt:39:31
 slice-aggregate-put-bytes : tie.Need-slice-aggregate-put-bytes
 slice-aggregate-put-bytes c =
     let said = c .before .before .before .before .before .before .before in
     said .said-of .ensures .0 ∙ ap length (sym (lent said))
 
--- src/lib.rt:39:10
 put-bytes-requires : tie.Need-put-bytes-requires
 put-bytes-requires c κs = search needs
 
--- src/lib.rt:39:5
 add-k : tie.Need-add-k
 add-k c =
     let word = c .before .before in
     let args = start (word .before .before .before .before .before) .args in
     omega (arith, word-stands word .count, to-word-short (args .number) (args .answer))
 
--- src/lib.rt:40:10
 put-field-requires : tie.Need-put-field-requires
 put-field-requires c κs =
     let word = c .before .before .before in
@@ -137,32 +122,26 @@ put-field-requires c κs =
     let short = to-word-short (args .number) (args .answer) in
     omega (arith, word-stands word .count, stands-length (word-stands word) (omega arith))
 
--- src/lib.rt:40:5
 add-k-2 : tie.Need-add-k-2
 add-k-2 c =
     let args = start (to-number (c .before .before)) .args in
     omega (arith, value-stands (c .before .before) .count, to-value-short (args .number) (args .answer))
 
--- src/lib.rt:41:30
 slice-aggregate-put-bytes-2 : tie.Need-slice-aggregate-put-bytes-2
 slice-aggregate-put-bytes-2 c = search needs
 
--- src/lib.rt:41:9
 put-bytes-requires-2 : tie.Need-put-bytes-requires-2
 put-bytes-requires-2 c κs = search needs
 
--- src/lib.rt:41:5
 add-result : tie.Need-add-result
 add-result c =
     let args = start (to-number (c .before .before .before .before .before .before .before)) .args in
     let all = line-stands (c .before .before) in
     omega (arith, all .count, line-short (args .number) (args .answer))
 
--- src/lib.rt:27:1
 same-length : tie.Need-same-length
 same-length c = search needs
 
--- src/lib.rt:27:1
 returns-2 : tie.Need-returns-2
 returns-2 c = stands-put (line-stands (c .before .before)) (omega arith)
 
