@@ -76,6 +76,9 @@ pub put-short : (text output : List ℕ) → length output < 32 → put text out
 unfolding put
 put-short text output h = rw (fitting-short text output h)
 
+pub nothing-put : (text output : List ℕ) → length output < 32 → (0 ≡ length (fitting text output)) × (output ≡ put text output)
+nothing-put text output h = (ap length (sym (fitting-short text output h)), sym (put-short text output h))
+
 -- ---- putting a text over the bytes of an output from `at` on
 
 pub fittingAt-whole : (at : ℕ) (text output : List ℕ) → at + length text ≤ length output → fittingAt at text output ≡ text
@@ -96,6 +99,9 @@ placed-short at text output h = rw (lt-leb (at + length text) (length output) h)
 
 pub placed-length : (at : ℕ) (text output : List ℕ) → at + length text ≤ length output → length (placed at text output) ≡ length output
 placed-length at text output h = rw (placed-whole at text output h, length-append, length-append, length-take, length-drop) (omega arith)
+
+pub nothing-placed : (at : ℕ) (text output : List ℕ) → length output < at + length text → (0 ≡ length (fittingAt at text output)) × (output ≡ placed at text output)
+nothing-placed at text output h = (ap length (sym (fittingAt-short at text output h)), sym (placed-short at text output h))
 
 -- the part of an output from `at` on, as it is lent: its own bytes, and none after it. Putting a text over the first bytes of the part
 -- puts it over those from `at` on

@@ -1,2 +1,3 @@
--- The laws that callers cite. Assumes nothing.
+-- The laws that callers cite, and examples. Assumes nothing.
 pub mod Laws
+mod Examples

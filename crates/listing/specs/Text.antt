@@ -49,6 +49,15 @@ value Ended = dash
 value (Finished j) = spelling j
 value (Refused n) = spelling n
 
+-- the text of a value that the code has picked out
+abbrev pub written : Field → List ℕ
+written (Number n) = spelling n
+written Dash = dash
+
+-- the answer between two spaces
+abbrev pub spaced : Answer → List ℕ
+spaced a = 32 ∷ word a ++ 32 ∷ []
+
 -- what follows a line's number: the answer and the value, a space (byte 32) before each, and the newline (byte 10)
 unfoldable pub said : Answer → List ℕ
 said a = 32 ∷ word a ++ 32 ∷ value a ++ 10 ∷ []
@@ -72,12 +81,3 @@ fittingAt at text output = cond (leb (at + length text) (length output)) text []
 -- the output with the text from `at` on, where it fits: the bytes before and after it keep what they held
 unfoldable pub placed : ℕ → List ℕ → List ℕ → List ℕ
 placed at text output = cond (leb (at + length text) (length output)) (take at output ++ text ++ drop (at + length text) output) output
-
--- the answer between two spaces
-abbrev pub spaced : Answer → List ℕ
-spaced a = 32 ∷ word a ++ 32 ∷ []
-
--- the value column's text
-abbrev pub written : Field → List ℕ
-written (Number n) = spelling n
-written Dash = dash

@@ -9,13 +9,26 @@ ghost use lib.ListN.{length, take};
 ghost use Rattle.decimal.specs.Spelling.{spelling};
 ghost use Rattle.listing.specs.Text.{heading, spaced, value, written, line, fitting, put, fittingAt, placed};
 
+// An answer's value: a number, or `-`.
+enum Field {
+    Number(u32),
+    Dash,
+}
+
+// What stands between a line's number and its newline: a text whose first bytes are the answer's word
+// between two spaces, how many they are, and the value.
+struct Said([u8; 11], usize, Field);
+
+// Any line of a listing fits into so many bytes.
+const ROOM: usize = 32;
+
 // Puts the heading over the first bytes of the output, and answers how many there are. The bytes
 // after them keep what they held. An output under 32 bytes keeps its bytes, and the answer is 0.
 pub fn put_heading(output: &mut [u8]) -> usize
     ensures count { λ r. ⌜ r ≡ length (fitting heading (now (output .entry))) ⌝ }
     ensures bytes { λ _. ⌜ now (output .exit) ≡ put heading (now (output .entry)) ⌝ }
 {
-    if output.len() < 32 {
+    if output.len() < ROOM {
         return 0;
     }
     put_bytes(output, 0, b"line answer value\n")
@@ -28,7 +41,7 @@ pub fn put_line(number: u32, answer: Answer, output: &mut [u8]) -> usize
     ensures count { λ r. ⌜ r ≡ length (fitting (line number answer) (now (output .entry))) ⌝ }
     ensures bytes { λ _. ⌜ now (output .exit) ≡ put (line number answer) (now (output .entry)) ⌝ }
 {
-    if output.len() < 32 {
+    if output.len() < ROOM {
         return 0;
     }
     let said = said_of(answer);
@@ -40,16 +53,6 @@ pub fn put_line(number: u32, answer: Answer, output: &mut [u8]) -> usize
     k += put_field(field, output, k);
     k + put_bytes(output, k, b"\n")
 }
-
-// An answer's value: a number, or `-`.
-enum Field {
-    Number(u32),
-    Dash,
-}
-
-// What stands between a line's number and its newline: a text whose first bytes are the answer's word
-// between two spaces, how many they are, and the value.
-struct Said([u8; 11], usize, Field);
 
 // What an answer says.
 fn said_of(answer: Answer) -> Said

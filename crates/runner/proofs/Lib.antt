@@ -7,3 +7,4 @@ mod LineLaws
 mod Written
 mod Feeding
 mod Finishing
+pub mod Laws

@@ -12,157 +12,172 @@ use Rattle.decimal.specs.Spelling.{spelling}
 use Rattle.decimal.proofs.Laws.{spelling-length}
 use Rattle.machine.specs.declared.Answer.{Answer}
 use Rattle.listing.specs.Text.{spaced, value, said, line}
-use Rattle.listing.proofs.Laws.{line-short, spaced-short, value-short, fitting-short, put-short, Stands, stands-none, stands-next, stands-length, stands-put}
+use Rattle.listing.proofs.Laws.{line-short, spaced-short, value-short, nothing-put, Stands, stands-none, stands-next, stands-length, stands-put}
 use Rattle.listing.proofs.put_line.Statement.{statement}
 use Rattle.listing.proofs.put_line.Tie as tie
-use Rattle.listing.proofs.put_line.Reads as reads
-use Rattle.listing.proofs.put_line.Lts as lts
-use Rattle.listing.proofs.put_bytes.Reads as put-bytes-reads
-use Rattle.listing.proofs.put_field.Reads as put-field-reads
-use Rattle.listing.proofs.put_number.Reads as put-number-reads
-use Rattle.listing.proofs.said_of.Reads as said-of-reads
 
 -- the four texts are the line
 parts : (n : ℕ) (a : Answer) → spelling n ++ spaced a ++ value a ++ (10 ∷ []) ≡ line n a
 unfolding line said
 parts n a = simp append-assoc
 
-abbrev number : tie.Start → List ℕ
-number c = spelling (c .args .number)
-
+-- what was lent, and the texts that are put there
 abbrev output : tie.Start → List ℕ
-output c = now (c .args .output)
+output s = now (s .args .output)
 
--- the part of the text that is lent, as long as it says
-lent : (c : tie.After-said-of) → take (c .said-of .result .1) (c .said-of .result .0) ≡ spaced (c .before .before .before .args .answer)
-lent c = c .said-of .ensures .1 .0
+abbrev number : tie.Start → List ℕ
+number s = spelling (s .args .number)
 
-abbrev start : tie.After-put-number → tie.Start
-start c = c .before .before .before .before .before .before
+abbrev word : tie.Start → List ℕ
+word s = spaced (s .args .answer)
 
-number-stands : (c : tie.After-put-number) → Stands (number (start c)) (output (start c)) (c .put-number .result) (c .put-number .last .1 .0)
-number-stands c =
-    let done = c .put-number .ensures in
-    let short = spelling-length (start c .args .number) in
-    rw zero-add at (stands-next (number (start c)) (stands-none (output (start c))) (omega arith) (done .0) (done .1))
+abbrev shown : tie.Start → List ℕ
+shown s = value (s .args .answer)
 
--- the places where the number and the word were put
-abbrev to-word : tie.After-put-field → tie.After-put-bytes
-to-word c = c .before .before .before .before
-
-abbrev to-number : tie.After-put-field → tie.After-put-number
-to-number c = to-word c .before .before .before .before .before
-
-abbrev to-value : tie.After-put-bytes2 → tie.After-put-field
-to-value c = c .before .before .before .before .before
-
--- how long the parts are together
+-- how long they are together
 to-word-short : (n : ℕ) (a : Answer) → length (spelling n ++ spaced a) ≤ 21
 to-word-short n a = rw length-append (omega (arith, spelling-length n, spaced-short a))
 
 to-value-short : (n : ℕ) (a : Answer) → length (spelling n ++ spaced a ++ value a) ≤ 31
 to-value-short n a = rw length-append (omega (arith, to-word-short n a, value-short a))
 
+-- ---- after each of the four calls: the call before it, and where the function began
+
+abbrev of-number : tie.After-put-number → tie.Start
+of-number c = c .before .before .before .before .before .before
+
+abbrev to-number : tie.After-put-bytes → tie.After-put-number
+to-number c = c .before .before .before .before .before
+
+abbrev of-word : tie.After-put-bytes → tie.Start
+of-word c = of-number (to-number c)
+
+abbrev to-word : tie.After-put-field → tie.After-put-bytes
+to-word c = c .before .before .before .before
+
+abbrev of-value : tie.After-put-field → tie.Start
+of-value c = of-word (to-word c)
+
+abbrev to-value : tie.After-put-bytes2 → tie.After-put-field
+to-value c = c .before .before .before .before .before
+
+abbrev of-line : tie.After-put-bytes2 → tie.Start
+of-line c = of-value (to-value c)
+
+-- where the next byte goes
+abbrev past-word : tie.After-put-bytes → ℕ
+past-word c = to-number c .put-number .result + c .put-bytes .result
+
+abbrev past-value : tie.After-put-field → ℕ
+past-value c = past-word (to-word c) + c .put-field .result
+
+-- ---- the texts stand one after another
+
+-- the part of the text that is lent
+lent : (c : tie.After-said-of) → take (c .said-of .result .1) (c .said-of .result .0) ≡ spaced (c .before .before .before .args .answer)
+lent c = c .said-of .ensures .1 .0
+
+number-stands : (c : tie.After-put-number) → Stands (number (of-number c)) (output (of-number c)) (c .put-number .result) (c .put-number .last .1 .0)
+number-stands c =
+    let done = c .put-number .ensures in
+    let short = spelling-length (of-number c .args .number) in
+    rw zero-add at (stands-next (number (of-number c)) (stands-none (output (of-number c))) (omega arith) (done .0) (done .1))
+
 word-stands : (c : tie.After-put-bytes)
+<<<<<<< HEAD
     → Stands (number (start (c .before .before .before .before .before)) ++ spaced (start (c .before .before .before .before .before) .args .answer)) (output (start (c .before .before .before .before .before)))
     (c .before .before .before .before .before .put-number .result + c .put-bytes .result) (c .put-bytes .last .0)
+=======
+    → Stands (number (of-word c) ++ word (of-word c)) (output (of-word c)) (past-word c) (c .put-bytes .last .0)
+>>>>>>> 0065f05
 word-stands c =
-    let first = c .before .before .before .before .before in
-    let n = start first .args .number in
-    let a = start first .args .answer in
-    let done = rw (lent (first .before .before .before)) at (c .put-bytes .ensures) in
-    stands-next (spaced a) (number-stands first) (omega (arith, spelling-length n, spaced-short a)) (done .0) (done .1)
+    let args = of-word c .args in
+    let done = rw (lent (to-number c .before .before .before)) at (c .put-bytes .ensures) in
+    stands-next (word (of-word c)) (number-stands (to-number c)) (omega (arith, spelling-length (args .number), spaced-short (args .answer))) (done .0) (done .1)
 
 value-stands : (c : tie.After-put-field)
+<<<<<<< HEAD
     → Stands (number (start (to-number c)) ++ spaced (start (to-number c) .args .answer) ++ value (start (to-number c) .args .answer)) (output (start (to-number c)))
     (to-number c .put-number .result + to-word c .put-bytes .result + c .put-field .result) (c .put-field .last .1 .0)
+=======
+    → Stands (number (of-value c) ++ word (of-value c) ++ shown (of-value c)) (output (of-value c)) (past-value c) (c .put-field .last .1 .0)
+>>>>>>> 0065f05
 value-stands c =
-    let n = start (to-number c) .args .number in
-    let a = start (to-number c) .args .answer in
-    let done = rw (to-number c .before .before .before .said-of .ensures .1 .1) at (c .put-field .ensures) in
-    stands-next (value a) (word-stands (to-word c)) (omega (arith, to-word-short n a, value-short a)) (done .0) (done .1)
+    let args = of-value c .args in
+    let done = rw (to-number (to-word c) .before .before .before .said-of .ensures .1 .1) at (c .put-field .ensures) in
+    let short = to-word-short (args .number) (args .answer) in
+    stands-next (shown (of-value c)) (word-stands (to-word c)) (omega (arith, value-short (args .answer))) (done .0) (done .1)
 
 line-stands : (c : tie.After-put-bytes2)
+<<<<<<< HEAD
     → Stands (line (start (to-number (to-value c)) .args .number) (start (to-number (to-value c)) .args .answer)) (output (start (to-number (to-value c))))
     (to-number (to-value c) .put-number .result + to-word (to-value c) .put-bytes .result + to-value c .put-field .result + c .put-bytes2 .result) (c .put-bytes2 .last .0)
+=======
+    → Stands (line (of-line c .args .number) (of-line c .args .answer)) (output (of-line c)) (past-value (to-value c) + c .put-bytes2 .result) (c .put-bytes2 .last .0)
+>>>>>>> 0065f05
 line-stands c =
-    let n = start (to-number (to-value c)) .args .number in
-    let a = start (to-number (to-value c)) .args .answer in
+    let args = of-line c .args in
     let done = c .put-bytes2 .ensures in
-    rw parts at (stands-next (10 ∷ []) (value-stands (to-value c)) (omega (arith, to-value-short n a)) (done .0) (done .1))
+    let short = to-value-short (args .number) (args .answer) in
+    rw parts at (stands-next (10 ∷ []) (value-stands (to-value c)) (omega arith) (done .0) (done .1))
 
--- src/lib.rt:32:9
+-- ---- the needs
+
 returns : tie.Need-returns
 returns c =
     let args = c .before .before .args in
-    let text = line (args .number) (args .answer) in
-    (ap length (sym (fitting-short text (now (args .output)) (omega arith))), sym (put-short text (now (args .output)) (omega arith)))
+    nothing-put (line (args .number) (args .answer)) (now (args .output)) (omega arith)
 
--- src/lib.rt:34:9
 said-of-requires : tie.Need-said-of-requires
 said-of-requires c κs = search needs
 
--- src/lib.rt:38:9
 put-number-requires : tie.Need-put-number-requires
 put-number-requires c κs = search needs
 
--- src/lib.rt:39:31
 array-share-prefix-text : tie.Need-array-share-prefix-text
 array-share-prefix-text c =
     let said = c .before .before .before .before .before .before in
     omega (arith, said .said-of .ensures .0, ap length (lent said), length-take (said .said-of .result .1) (said .said-of .result .0))
 
--- src/lib.rt:39:31
 slice-aggregate-put-bytes : tie.Need-slice-aggregate-put-bytes
 slice-aggregate-put-bytes c =
     let said = c .before .before .before .before .before .before .before in
     said .said-of .ensures .0 ∙ ap length (sym (lent said))
 
--- src/lib.rt:39:10
 put-bytes-requires : tie.Need-put-bytes-requires
 put-bytes-requires c κs = search needs
 
--- src/lib.rt:39:5
 add-k : tie.Need-add-k
 add-k c =
-    let word = c .before .before in
-    let args = start (word .before .before .before .before .before) .args in
-    omega (arith, word-stands word .count, to-word-short (args .number) (args .answer))
+    let args = of-word (c .before .before) .args in
+    omega (arith, word-stands (c .before .before) .count, to-word-short (args .number) (args .answer))
 
--- src/lib.rt:40:10
 put-field-requires : tie.Need-put-field-requires
 put-field-requires c κs =
-    let word = c .before .before .before in
-    let args = start (word .before .before .before .before .before) .args in
+    let done = word-stands (c .before .before .before) in
+    let args = of-word (c .before .before .before) .args in
     let short = to-word-short (args .number) (args .answer) in
-    omega (arith, word-stands word .count, stands-length (word-stands word) (omega arith))
+    omega (arith, done .count, stands-length done (omega arith))
 
--- src/lib.rt:40:5
 add-k-2 : tie.Need-add-k-2
 add-k-2 c =
-    let args = start (to-number (c .before .before)) .args in
+    let args = of-value (c .before .before) .args in
     omega (arith, value-stands (c .before .before) .count, to-value-short (args .number) (args .answer))
 
--- src/lib.rt:41:30
 slice-aggregate-put-bytes-2 : tie.Need-slice-aggregate-put-bytes-2
 slice-aggregate-put-bytes-2 c = search needs
 
--- src/lib.rt:41:9
 put-bytes-requires-2 : tie.Need-put-bytes-requires-2
 put-bytes-requires-2 c κs = search needs
 
--- src/lib.rt:41:5
 add-result : tie.Need-add-result
 add-result c =
-    let args = start (to-number (c .before .before .before .before .before .before .before)) .args in
-    let all = line-stands (c .before .before) in
-    omega (arith, all .count, line-short (args .number) (args .answer))
+    let args = of-line (c .before .before) .args in
+    omega (arith, line-stands (c .before .before) .count, line-short (args .number) (args .answer))
 
--- src/lib.rt:27:1
 same-length : tie.Need-same-length
 same-length c = search needs
 
--- src/lib.rt:27:1
 returns-2 : tie.Need-returns-2
 returns-2 c = stands-put (line-stands (c .before .before)) (omega arith)
 

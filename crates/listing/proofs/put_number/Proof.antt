@@ -1,3 +1,5 @@
+-- `listing::put_number` meets its contract: what `decimal::put` leaves in the part of the output from `at` on.
+-- Assumes nothing.
 use mathlib.Core.Path.{_≡_, refl, sym, ap, _∙_}
 use Prim.Native.Nat.{_+_, _-_, _≤_, _<_}
 use native.Mathlib.Omega.{arith}
@@ -9,31 +11,22 @@ use Rattle.decimal.proofs.Laws.{spelling-length, shown-whole, printed-whole}
 use Rattle.listing.proofs.Laws.{fittingAt-whole, placed-part}
 use Rattle.listing.proofs.put_number.Statement.{statement}
 use Rattle.listing.proofs.put_number.Tie as tie
-use Rattle.listing.proofs.put_number.Reads as reads
-use Rattle.listing.proofs.put_number.Lts as lts
-use Rattle.decimal.proofs.put.Reads as put-reads
 
--- src/lib.rt:84:21
 sub-put : tie.Need-sub-put
 sub-put c = search needs
 
--- src/lib.rt:84:21
 part-put-start : tie.Need-part-put-start
 part-put-start c = search needs
 
--- src/lib.rt:84:21
 part-put-end : tie.Need-part-put-end
 part-put-end c = search needs
 
--- src/lib.rt:84:5
 put-requires : tie.Need-put-requires
 put-requires c κs = search needs
 
--- src/lib.rt:79:1
 same-length : tie.Need-same-length
 same-length c = search needs
 
--- src/lib.rt:79:1
 returns : tie.Need-returns
 returns c =
     let start = c .before .before .before .before .before .args in

@@ -1,115 +1,88 @@
+-- `listing::said_of` meets its contract: once the answer is known, its word and its value are those of the definitions by computation.
+-- Assumes nothing.
 use mathlib.Core.Path.{refl}
 use borrow.Author.Needs.{needs}
 use Rattle.listing.proofs.said_of.Statement.{statement}
 use Rattle.listing.proofs.said_of.Tie as tie
-use Rattle.listing.proofs.said_of.Reads as reads
-use Rattle.listing.proofs.said_of.Lts as lts
 
--- src/lib.rt:61:32
 enum-told : tie.Need-enum-told
 enum-told c = search needs
 
--- src/lib.rt:62:34
 enum-told-2 : tie.Need-enum-told-2
 enum-told-2 c = search needs
 
--- src/lib.rt:63:33
 enum-told-3 : tie.Need-enum-told-3
 enum-told-3 c = search needs
 
--- src/lib.rt:64:23
 enum-known-answer : tie.Need-enum-known-answer
 enum-known-answer c = search needs
 
--- src/lib.rt:65:23
 enum-known-answer-2 : tie.Need-enum-known-answer-2
 enum-known-answer-2 c = search needs
 
--- src/lib.rt:66:34
 enum-told-4 : tie.Need-enum-told-4
 enum-told-4 c = search needs
 
--- src/lib.rt:67:35
 enum-told-5 : tie.Need-enum-told-5
 enum-told-5 c = search needs
 
--- src/lib.rt:68:27
 enum-known-answer-3 : tie.Need-enum-known-answer-3
 enum-known-answer-3 c = search needs
 
--- src/lib.rt:68:80
 cast-t43 : tie.Need-cast-t43
 cast-t43 c = search needs
 
--- src/lib.rt:69:34
 enum-told-6 : tie.Need-enum-told-6
 enum-told-6 c = search needs
 
--- src/lib.rt:70:32
 enum-told-7 : tie.Need-enum-told-7
 enum-told-7 c = search needs
 
--- src/lib.rt:71:26
 enum-known-answer-4 : tie.Need-enum-known-answer-4
 enum-known-answer-4 c = search needs
 
--- src/lib.rt:71:74
 cast-t53 : tie.Need-cast-t53
 cast-t53 c = search needs
 
--- src/lib.rt:72:25
 enum-known-answer-5 : tie.Need-enum-known-answer-5
 enum-known-answer-5 c = search needs
 
--- src/lib.rt:72:75
 cast-t57 : tie.Need-cast-t57
 cast-t57 c = search needs
 
--- src/lib.rt:55:1
 returns : tie.Need-returns
 returns c = rw (c .before .before .enum-told .given .1) (refl, (refl, refl))
 
--- src/lib.rt:55:1
 returns-2 : tie.Need-returns-2
 returns-2 c = rw (c .before .before .enum-told2 .given .1) (refl, (refl, refl))
 
--- src/lib.rt:55:1
 returns-3 : tie.Need-returns-3
 returns-3 c = rw (c .before .before .enum-told3 .given .1) (refl, (refl, refl))
 
--- src/lib.rt:55:1
 returns-4 : tie.Need-returns-4
 returns-4 c = rw (c .before .before .before .answer .given .1) (refl, (refl, refl))
 
--- src/lib.rt:55:1
 returns-5 : tie.Need-returns-5
 returns-5 c = rw (c .before .before .before .answer2 .given .1) (refl, (refl, refl))
 
--- src/lib.rt:55:1
 returns-6 : tie.Need-returns-6
 returns-6 c = rw (c .before .before .enum-told4 .given .1) (refl, (refl, refl))
 
--- src/lib.rt:55:1
 returns-7 : tie.Need-returns-7
 returns-7 c = rw (c .before .before .enum-told5 .given .1) (refl, (refl, refl))
 
--- src/lib.rt:55:1
 returns-8 : tie.Need-returns-8
 returns-8 c = rw (c .before .before .before .answer3 .given .1) (refl, (refl, refl))
 
--- src/lib.rt:55:1
 returns-9 : tie.Need-returns-9
 returns-9 c = rw (c .before .before .enum-told6 .given .1) (refl, (refl, refl))
 
--- src/lib.rt:55:1
 returns-10 : tie.Need-returns-10
 returns-10 c = rw (c .before .before .enum-told7 .given .1) (refl, (refl, refl))
 
--- src/lib.rt:55:1
 returns-11 : tie.Need-returns-11
 returns-11 c = rw (c .before .before .before .answer4 .given .1) (refl, (refl, refl))
 
--- src/lib.rt:55:1
 returns-12 : tie.Need-returns-12
 returns-12 c = rw (c .before .before .before .answer5 .given .1) (refl, (refl, refl))
 

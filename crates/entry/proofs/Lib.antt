@@ -1,0 +1,1 @@
+-- The facts that the functions' proofs rest on. Assumes nothing.

@@ -1,0 +1,69 @@
+// The C entry: a script in, its listing out (include/cards.h). Assumes nothing.
+ghost use mathlib.Core.Path.{_≡_};
+ghost use mathlib.Core.List.{List, _++_};
+ghost use Prim.Native.Nat.{ℕ, _+_, _≤_, _<_};
+ghost use lib.ListN.{length, drop};
+ghost use Rattle.runner.specs.Listing.{listing};
+ghost use Rattle.entry.specs.Fitting.{fitting, given};
+
+// How many bytes of the script are run at a time. Each may end a line, which takes up to 32 bytes of text.
+const CHUNK: usize = 128;
+
+// Lists the script over the first bytes of the output and answers how many bytes that is. A listing that is longer than the output is
+// refused (12): the answer is 0 and the output is untouched.
+#[no_mangle]
+pub extern "C" fn cards_run(script: &[u8], output: &mut [u8]) -> usize
+    ensures count { λ r. ⌜ r ≡ length (fitting (listing (now (script .entry))) (now (output .entry))) ⌝ }
+    ensures bytes { λ _. ⌜ now (output .exit) ≡ given (listing (now (script .entry))) (now (output .entry)) ⌝ }
+{
+    let n = list_into(script, &mut output[..0]);
+    if output.len() < n {
+        return 0;
+    }
+    list_into(script, output)
+}
+
+// Where the chunk that begins at `at` ends.
+fn chunk_end(length: usize, at: usize) -> usize
+    requires { ⌜ at < length ⌝ }
+    ensures { λ r. ⌜ (at < r) × (r ≤ length) × (r ≤ at + 128) ⌝ }
+{
+    if length - at < CHUNK {
+        length
+    } else {
+        at + CHUNK
+    }
+}
+
+// How long the script's listing is. Where the output has room for all of it, it is the output's first part, and the bytes after it keep
+// what they held.
+fn list_into(script: &[u8], output: &mut [u8]) -> usize
+    ensures count { λ r. ⌜ r ≡ length (listing (now (script .entry))) ⌝ }
+    ensures bytes { λ r. ⌜ (r ≤ length (now (output .entry)) → now (output .exit) ≡ listing (now (script .entry)) ++ drop r (now (output .entry))) ⌝ }
+{
+    let mut committed = [0u32; 64];
+    let mut pending = [0u32; 1024];
+    let mut text = [0u8; 4096];
+    let mut total = listing::put_heading(&mut text);
+    listing::put_bytes(output, 0, &text[..total]);
+    let mut reading = runner::start(&committed, &pending);
+    let mut at = 0;
+    while at < script.len() {
+        let end = chunk_end(script.len(), at);
+        let fed = runner::feed(
+            reading,
+            &script[at..end],
+            &mut committed,
+            &mut pending,
+            &mut text,
+        );
+        reading = fed.reading;
+        let k = fed.written;
+        listing::put_bytes(output, total, &text[..k]);
+        total += k;
+        at = end;
+    }
+    let k = runner::finish(reading, &mut committed, &mut pending, &mut text);
+    listing::put_bytes(output, total, &text[..k]);
+    total + k
+}
