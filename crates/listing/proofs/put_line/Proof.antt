@@ -84,24 +84,14 @@ number-stands c =
     rw zero-add at (stands-next (number (of-number c)) (stands-none (output (of-number c))) (omega arith) (done .0) (done .1))
 
 word-stands : (c : tie.After-put-bytes)
-<<<<<<< HEAD
-    → Stands (number (start (c .before .before .before .before .before)) ++ spaced (start (c .before .before .before .before .before) .args .answer)) (output (start (c .before .before .before .before .before)))
-    (c .before .before .before .before .before .put-number .result + c .put-bytes .result) (c .put-bytes .last .0)
-=======
     → Stands (number (of-word c) ++ word (of-word c)) (output (of-word c)) (past-word c) (c .put-bytes .last .0)
->>>>>>> 0065f05
 word-stands c =
     let args = of-word c .args in
     let done = rw (lent (to-number c .before .before .before)) at (c .put-bytes .ensures) in
     stands-next (word (of-word c)) (number-stands (to-number c)) (omega (arith, spelling-length (args .number), spaced-short (args .answer))) (done .0) (done .1)
 
 value-stands : (c : tie.After-put-field)
-<<<<<<< HEAD
-    → Stands (number (start (to-number c)) ++ spaced (start (to-number c) .args .answer) ++ value (start (to-number c) .args .answer)) (output (start (to-number c)))
-    (to-number c .put-number .result + to-word c .put-bytes .result + c .put-field .result) (c .put-field .last .1 .0)
-=======
     → Stands (number (of-value c) ++ word (of-value c) ++ shown (of-value c)) (output (of-value c)) (past-value c) (c .put-field .last .1 .0)
->>>>>>> 0065f05
 value-stands c =
     let args = of-value c .args in
     let done = rw (to-number (to-word c) .before .before .before .said-of .ensures .1 .1) at (c .put-field .ensures) in
@@ -109,12 +99,7 @@ value-stands c =
     stands-next (shown (of-value c)) (word-stands (to-word c)) (omega (arith, value-short (args .answer))) (done .0) (done .1)
 
 line-stands : (c : tie.After-put-bytes2)
-<<<<<<< HEAD
-    → Stands (line (start (to-number (to-value c)) .args .number) (start (to-number (to-value c)) .args .answer)) (output (start (to-number (to-value c))))
-    (to-number (to-value c) .put-number .result + to-word (to-value c) .put-bytes .result + to-value c .put-field .result + c .put-bytes2 .result) (c .put-bytes2 .last .0)
-=======
     → Stands (line (of-line c .args .number) (of-line c .args .answer)) (output (of-line c)) (past-value (to-value c) + c .put-bytes2 .result) (c .put-bytes2 .last .0)
->>>>>>> 0065f05
 line-stands c =
     let args = of-line c .args in
     let done = c .put-bytes2 .ensures in
