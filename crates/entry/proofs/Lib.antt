@@ -1,1 +1,2 @@
 -- The facts that the functions' proofs rest on. Assumes nothing.
+mod Filling

@@ -1,153 +1,138 @@
+-- `entry::list_into` meets its contract. The loop's invariant is `Running`; the measure is what is left of the script. Assumes nothing.
+use mathlib.Core.Path.{_≡_, refl, sym, ap, subst, _∙_}
+use Prim.Native.Nat.{ℕ, _-_, _≤_, _<_}
+use native.Mathlib.Omega.{arith}
+use lib.ListN.{length, take}
+use lib.Seq.{length-take-le}
+use denote.Ref.{now}
+use borrow.Author.Needs.{needs}
+use Rattle.entry.proofs.Filling.{Running, heading-put, running-starts, running-goes, running-small, running-ends, few-bytes}
+use Rattle.runner.proofs.Laws.{listing-short}
 use Rattle.entry.proofs.list_into.Statement.{statement}
 use Rattle.entry.proofs.list_into.Tie as tie
-use Rattle.entry.proofs.list_into.Reads as reads
-use Rattle.entry.proofs.list_into.Lts as lts
-use Rattle.entry.proofs.chunk_end.Reads as chunk-end-reads
-use Rattle.listing.proofs.put_bytes.Reads as put-bytes-reads
-use Rattle.listing.proofs.put_heading.Reads as put-heading-reads
-use Rattle.runner.proofs.feed.Reads as feed-reads
-use Rattle.runner.proofs.finish.Reads as finish-reads
-use Rattle.runner.proofs.start.Reads as start-reads
 
 abbrev Inv-loop : tie.InvT-loop
 Inv-loop script output₀ committed₀ pending₀ text₀ total₀ reading₀ at₀ output committed pending text total reading at =
-    ?
+    Running script output₀ output committed pending text total reading at
 
 abbrev μ-loop : tie.MeasureT-loop
 μ-loop script output₀ committed₀ pending₀ text₀ total₀ reading₀ at₀ output committed pending text total reading at =
-    ?
+    length script - at
 
--- src/lib.rt:47:42
 slice-aggregate-put-heading : tie.Need-slice-aggregate-put-heading Inv-loop μ-loop
-slice-aggregate-put-heading c = ?
+slice-aggregate-put-heading c = search needs
 
--- src/lib.rt:47:9
 put-heading-requires : tie.Need-put-heading-requires Inv-loop μ-loop
-put-heading-requires c κs = ?
+put-heading-requires c κs = search needs
 
--- src/lib.rt:48:35
 array-share-prefix-text : tie.Need-array-share-prefix-text Inv-loop μ-loop
-array-share-prefix-text c = ?
+array-share-prefix-text c =
+    let put = c .before .before .put-heading in
+    let eighteen = heading-put _ _ _ refl (put .ensures .0) (put .ensures .1) .0 in
+    omega (arith, eighteen, put .kept .0)
 
--- src/lib.rt:48:35
 slice-aggregate-put-bytes : tie.Need-slice-aggregate-put-bytes Inv-loop μ-loop
-slice-aggregate-put-bytes c = ?
+slice-aggregate-put-bytes c = sym (length-take-le _ _ (array-share-prefix-text (c .before)))
 
--- src/lib.rt:48:5
 put-bytes-requires : tie.Need-put-bytes-requires Inv-loop μ-loop
-put-bytes-requires c κs = ?
+put-bytes-requires c κs = search needs
 
--- src/lib.rt:49:37
 slice-aggregate-start : tie.Need-slice-aggregate-start Inv-loop μ-loop
-slice-aggregate-start c = ?
+slice-aggregate-start c = search needs
 
--- src/lib.rt:49:49
 slice-aggregate-start-2 : tie.Need-slice-aggregate-start-2 Inv-loop μ-loop
-slice-aggregate-start-2 c = ?
+slice-aggregate-start-2 c = search needs
 
--- src/lib.rt:49:9
 start-requires : tie.Need-start-requires Inv-loop μ-loop
-start-requires c κs = ?
+start-requires c κs = search needs
 
--- src/lib.rt:51:5
 loop-holds : tie.Need-loop-holds Inv-loop μ-loop
-loop-holds c = ?
+loop-holds c =
+    let put = c .before .before .before .before .before .before .before .before .before .put-heading in
+    running-starts _ _ _ _ _ _ _ _ _ (heading-put _ _ _ refl (put .ensures .0) (put .ensures .1)) (c .before .before .before .before .before .put-bytes .ensures .1)
+    (put .kept .0) (c .start .ensures .0) (c .start .ensures .1)
 
--- src/lib.rt:52:13
 chunk-end-requires : tie.Need-chunk-end-requires Inv-loop μ-loop
-chunk-end-requires c κs = ?
+chunk-end-requires c κs = search needs
 
--- src/lib.rt:55:13
 sub-feed : tie.Need-sub-feed Inv-loop μ-loop
-sub-feed c = ?
+sub-feed c = search needs
 
--- src/lib.rt:55:13
 part-feed-start : tie.Need-part-feed-start Inv-loop μ-loop
-part-feed-start c = ?
+part-feed-start c = search needs
 
--- src/lib.rt:55:13
 part-feed-end : tie.Need-part-feed-end Inv-loop μ-loop
-part-feed-end c = ?
+part-feed-end c = search needs
 
--- src/lib.rt:56:13
 slice-aggregate-feed : tie.Need-slice-aggregate-feed Inv-loop μ-loop
-slice-aggregate-feed c = ?
+slice-aggregate-feed c = search needs
 
--- src/lib.rt:57:13
 slice-aggregate-feed-2 : tie.Need-slice-aggregate-feed-2 Inv-loop μ-loop
-slice-aggregate-feed-2 c = ?
+slice-aggregate-feed-2 c = search needs
 
--- src/lib.rt:58:13
 slice-aggregate-feed-3 : tie.Need-slice-aggregate-feed-3 Inv-loop μ-loop
-slice-aggregate-feed-3 c = ?
+slice-aggregate-feed-3 c = search needs
 
--- src/lib.rt:53:13
 feed-requires : tie.Need-feed-requires Inv-loop μ-loop
-feed-requires c κs = ?
+feed-requires c κs = search needs
 
--- src/lib.rt:62:43
 array-share-prefix-text-2 : tie.Need-array-share-prefix-text-2 Inv-loop μ-loop
-array-share-prefix-text-2 c = ?
+array-share-prefix-text-2 c = search needs
 
--- src/lib.rt:62:43
 slice-aggregate-put-bytes-2 : tie.Need-slice-aggregate-put-bytes-2 Inv-loop μ-loop
-slice-aggregate-put-bytes-2 c = ?
+slice-aggregate-put-bytes-2 c = sym (length-take-le _ _ (array-share-prefix-text-2 (c .before)))
 
--- src/lib.rt:62:9
 put-bytes-requires-2 : tie.Need-put-bytes-requires-2 Inv-loop μ-loop
-put-bytes-requires-2 c κs = ?
+put-bytes-requires-2 c κs = search needs
 
--- src/lib.rt:63:9
-add-total : tie.Need-add-total Inv-loop μ-loop
-add-total c = ?
-
--- src/lib.rt:51:5
 loop-less : tie.Need-loop-less Inv-loop μ-loop
-loop-less c = ?
+loop-less c = search needs
 
--- src/lib.rt:51:5
 loop-again : tie.Need-loop-again Inv-loop μ-loop
-loop-again c = ?
+loop-again c =
+    running-goes _ _ _ _ _ _ _ _ _ (c .before .before .before .before .before .before .before .before .before .before .before .before .before .before .before .before .loop .inv) _ _ _ _ _ _ _ (c .before .before .before .before .before .before .before .before .before .before .before .before .before .before .chunk-end .ensures .0) (c .before .before .before .before .before .before .before .before .before .before .before .before .before .before .chunk-end .ensures .1)
+    (c .before .before .before .before .before .before .before .before .before .feed .ensures .0) (c .before .before .before .before .before .before .before .before .before .feed .kept .1 .1 .1 .1 .0 ∙ c .before .before .before .before .before .before .before .before .before .before .before .before .before .before .before .before .loop .inv .scratch-long) (few-bytes _ _ _ _ (c .before .before .before .before .before .before .before .before .before .before .before .before .before .before .chunk-end .ensures .2) (c .before .before .before .before .before .before .before .before .before .feed .ensures .1 .1 .0)) (c .before .before .before .before .before .before .before .before .before .feed .ensures .1 .0) (c .before .before .put-bytes2 .ensures .1)
 
--- src/lib.rt:66:37
+add-total : tie.Need-add-total Inv-loop μ-loop
+add-total c =
+    record { fits = omega (arith, running-small _ _ _ _ _ _ _ _ _ (loop-again c)) }
+
 slice-aggregate-finish : tie.Need-slice-aggregate-finish Inv-loop μ-loop
-slice-aggregate-finish c = ?
+slice-aggregate-finish c = search needs
 
--- src/lib.rt:66:53
 slice-aggregate-finish-2 : tie.Need-slice-aggregate-finish-2 Inv-loop μ-loop
-slice-aggregate-finish-2 c = ?
+slice-aggregate-finish-2 c = search needs
 
--- src/lib.rt:66:67
 slice-aggregate-finish-3 : tie.Need-slice-aggregate-finish-3 Inv-loop μ-loop
-slice-aggregate-finish-3 c = ?
+slice-aggregate-finish-3 c = search needs
 
--- src/lib.rt:66:9
 finish-requires : tie.Need-finish-requires Inv-loop μ-loop
-finish-requires c κs = ?
+finish-requires c κs = search needs
 
--- src/lib.rt:67:39
 array-share-prefix-text-3 : tie.Need-array-share-prefix-text-3 Inv-loop μ-loop
-array-share-prefix-text-3 c = ?
+array-share-prefix-text-3 c = search needs
 
--- src/lib.rt:67:39
 slice-aggregate-put-bytes-3 : tie.Need-slice-aggregate-put-bytes-3 Inv-loop μ-loop
-slice-aggregate-put-bytes-3 c = ?
+slice-aggregate-put-bytes-3 c = sym (length-take-le _ _ (array-share-prefix-text-3 (c .before)))
 
--- src/lib.rt:67:5
 put-bytes-requires-3 : tie.Need-put-bytes-requires-3 Inv-loop μ-loop
-put-bytes-requires-3 c κs = ?
+put-bytes-requires-3 c κs = search needs
 
--- src/lib.rt:68:5
-add-result : tie.Need-add-result Inv-loop μ-loop
-add-result c = ?
-
--- src/lib.rt:40:1
 same-length : tie.Need-same-length Inv-loop μ-loop
-same-length c = ?
+same-length c = search needs
 
--- src/lib.rt:40:1
 returns : tie.Need-returns Inv-loop μ-loop
-returns c = ?
+returns c =
+    let ended = c .before .before .before .before .before .before .before .before in
+    let at = ended .before .before .before .before .before in
+    let put = at .before .before .before .before .before .before .before .before .before .before .put-heading in
+    running-ends _ _ _ _ _ _ _ _ _ (at .loop .inv) _ _ _ _ _ (ended .before .before .before .before .loop-test .left) (at .before .before .before .before .before .before .put-bytes .ensures .1)
+    (heading-put _ _ _ refl (put .ensures .0) (put .ensures .1) .1) (ended .finish .ensures .0) 
+    (omega (arith, ended .finish .ensures .1 .0, ended .finish .kept .1 .1 .1 .0, at .loop .inv .scratch-long)) (c .before .before .put-bytes3 .ensures .1)
+
+add-result : tie.Need-add-result Inv-loop μ-loop
+add-result c =
+    record { fits = omega (arith, returns c .0, listing-short (now (c .before .before .before .before .before .before .before .before .before .before .before .before .before .before .before .before .before .before .before .before .before .before .before .before .before .before .before .args .script))) }
 
 pub list-into-spec : {M : Type 1} → statement M
 list-into-spec =
