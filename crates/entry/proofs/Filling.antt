@@ -65,7 +65,7 @@ piece-listed script out₀ text out total left piece left′ l e =
       filled = λ room.
           let here = l .filled room in
           let fits : total + length piece ≤ length out =
-              omega (arith, l .long, l .out-long, room, ap length together, length-append (text ++ piece) left′, length-append text piece) in
+          omega (arith, l .long, l .out-long, room, ap length together, length-append (text ++ piece) left′, length-append text piece) in
           placed-whole total piece out fits
           ∙ ap (λ (x : List ℕ). take total x ++ piece ++ drop (total + length piece) x) here
           ∙ ap (λ (x : List ℕ). x ++ piece ++ drop (total + length piece) (text ++ drop total out₀)) (take-at text (drop total out₀) total (sym (l .long)))
@@ -105,10 +105,10 @@ all-listed script out₀ out₁ text out total piece k e h l count =
     let long : total + k ≡ length (listing script) = ap (λ (n : ℕ). total + n) count ∙ last .long ∙ ap length (sym all) in (
       long,
       λ room.
-      last .filled (omega (arith, long, room, ap length e, placed-long 0 heading out₀))
-      ∙ ap (λ (x : List ℕ). x ++ drop (total + length piece) out₁) (sym all)
-      ∙ ap (λ (n : ℕ). listing script ++ drop (total + n) out₁) (sym count)
-      ∙ ap (λ (x : List ℕ). listing script ++ x) (past-heading out₀ out₁ e (total + k) (omega (arith, h)) room),
+          last .filled (omega (arith, long, room, ap length e, placed-long 0 heading out₀))
+          ∙ ap (λ (x : List ℕ). x ++ drop (total + length piece) out₁) (sym all)
+          ∙ ap (λ (n : ℕ). listing script ++ drop (total + n) out₁) (sym count)
+          ∙ ap (λ (x : List ℕ). listing script ++ x) (past-heading out₀ out₁ e (total + k) (omega (arith, h)) room),
     )
 
 -- a chunk adds `piece`

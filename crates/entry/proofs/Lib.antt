@@ -1,2 +1,3 @@
 -- The facts that the functions' proofs rest on. Assumes nothing.
 mod Filling
+mod Fits

@@ -1,41 +1,42 @@
+-- `entry::cards_run` meets its contract: the second run lists what the first has counted. Assumes nothing.
+use denote.Ref.{now}
 use borrow.Author.Needs.{needs}
+use Rattle.runner.specs.Listing.{listing}
+use Rattle.entry.proofs.Fits.{too-long, fits}
 use Rattle.entry.proofs.cards_run.Statement.{statement}
 use Rattle.entry.proofs.cards_run.Tie as tie
-use Rattle.entry.proofs.cards_run.Reads as reads
-use Rattle.entry.proofs.cards_run.Lts as lts
-use Rattle.entry.proofs.list_into.Reads as list-into-reads
 
--- src/lib.rt:19:31
 slice-relend-prefix-list-into : tie.Need-slice-relend-prefix-list-into
 slice-relend-prefix-list-into c = search needs
 
--- src/lib.rt:19:31
 slice-aggregate-list-into : tie.Need-slice-aggregate-list-into
 slice-aggregate-list-into c = search needs
 
--- src/lib.rt:19:9
 list-into-requires : tie.Need-list-into-requires
 list-into-requires c κs = search needs
 
--- src/lib.rt:21:9
 same-length : tie.Need-same-length
 same-length c = search needs
 
--- src/lib.rt:21:9
 returns : tie.Need-returns
-returns c = ?
+returns c =
+    let first = c .before .before .before .list-into in
+    let start = c .before .before .before .before .before .before .before .args in
+    too-long (listing (now (start .script))) (now (start .output)) (first .last .1 .0) (first .kept .1 .0) _ (first .ensures .0) (c .if1 .taken)
 
--- src/lib.rt:23:5
 list-into-requires-2 : tie.Need-list-into-requires-2
 list-into-requires-2 c κs = search needs
 
--- src/lib.rt:14:1
 same-length-2 : tie.Need-same-length-2
 same-length-2 c = search needs
 
--- src/lib.rt:14:1
 returns-2 : tie.Need-returns-2
-returns-2 c = ?
+returns-2 c =
+    let second = c .before .before .list-into2 in
+    let else1 = c .before .before .before .before in
+    let first = else1 .before .before .before .list-into in
+    let start = else1 .before .before .before .before .before .before .before .args in
+    fits (listing (now (start .script))) (now (start .output)) (first .last .1 .0) (first .kept .1 .0) _ (first .ensures .0) (else1 .if1 .left) _ _ (second .ensures .0) (second .ensures .1)
 
 pub cards-run-spec : {M : Type 1} → statement M
 cards-run-spec =
