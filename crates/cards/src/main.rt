@@ -1,0 +1,61 @@
+// Reads a script from standard input to its end and prints its listing (document 01, 'Script and listing'), in constant memory: a
+// chunk of the script, its part of the listing, and the machine. A read or a write that fails ends the run with a line on standard
+// error.
+use libc::STDIN_FILENO;
+use libc::STDOUT_FILENO;
+use runner::Reading;
+ghost use mathlib.Core.Path.{_≡_};
+ghost use Prim.Native.Nat.{_≤_};
+ghost use lib.ListN.{length};
+ghost use Rattle.runner.specs.Kept.{Fit};
+
+fn main() {
+    let mut committed = [0u32; 64];
+    let mut pending = [0u32; 1024];
+    let mut output = io::large_buffer();
+    let k = listing::put_heading(&mut output);
+    if written(&output[..k]) {
+        let reading = runner::start(&committed, &pending);
+        run(reading, &mut committed, &mut pending, &mut output);
+    }
+}
+
+// Runs the script from here to its end. A proved loop has to end, and nothing says that the input does; so the loop counts its turns
+// down, from a number that no run uses up.
+fn run(first: Reading, committed: &mut [u32], pending: &mut [u32], output: &mut [u8])
+    requires { ⌜ Fit first (now committed) (now pending) × (65536 ≤ length (now output)) ⌝ }
+{
+    let mut input = [0u8; 2048];
+    let mut reading = first;
+    let mut turns = u64::MAX;
+    while 0 < turns {
+        turns -= 1;
+        let got = libc::read(STDIN_FILENO, &mut input);
+        if got < 0 {
+            os::fail(b"cards: read");
+            return;
+        }
+        let n = io::count(got, &input);
+        if n == 0 {
+            turns = 0;
+        } else {
+            let fed = runner::feed(reading, &input[..n], committed, pending, output);
+            reading = fed.reading;
+            let k = fed.written;
+            if !written(&output[..k]) {
+                return;
+            }
+        }
+    }
+    let k = runner::finish(reading, committed, pending, output);
+    written(&output[..k]);
+}
+
+// Writes all of the text to standard output, and answers whether it could.
+fn written(text: &[u8]) -> bool {
+    let is_written = io::write_all(STDOUT_FILENO, text);
+    if !is_written {
+        os::fail(b"cards: write");
+    }
+    is_written
+}
