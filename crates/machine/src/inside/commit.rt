@@ -103,25 +103,24 @@ fn struck_by(ws: u64, k: Core) -> Core
 
 // The cores after core c commits the write set ws: c has no transaction, and each transaction that ws strikes is aborted.
 // Only the first n are looked at: no other has a transaction.
-fn cores_after(cores: [Core; 16], n: usize, c: usize, ws: u64) -> [Core; 16]
+fn cores_after(mut cores: [Core; 16], n: usize, c: usize, ws: u64) -> [Core; 16]
     requires { ⌜ n ≤ 16 ⌝ }
     requires { ⌜ c < n ⌝ }
     requires { ⌜ ((e : ℕ) → e < 16 → getD cores e noCore .aborts < 255) ⌝ }
     requires { ⌜ ((e : ℕ) → e < 16 → n ≤ e → getD cores e noCore .active ≡ false) ⌝ }
     ensures { λ r. ⌜ r ≡ cleared ws c 0 cores ⌝ }
 {
-    let mut after = cores;
     let mut e = 0;
     while e < n {
-        let k = after[e];
+        let k = cores[e];
         if e == c {
-            after[e] = without_transaction(k);
+            cores[e] = without_transaction(k);
         } else {
-            after[e] = struck_by(ws, k);
+            cores[e] = struck_by(ws, k);
         }
         e += 1;
     }
-    after
+    cores
 }
 
 // Raises the version of each object in the write set ws by one; the others keep theirs. Only the first n are looked at: ws
@@ -195,7 +194,7 @@ fn carry_through(m: Machine, c: usize, committed: &mut [u32], pending: &[u32]) -
 // transaction is told that it was set back, and loses its mark and nothing more. One that conflicts with a smaller ticket
 // waits. Any other goes through. A refusal or a wait leaves the record and both tables as they are, and no call changes the
 // pending table.
-pub fn commit(m: Machine, core: u32, committed: &mut [u32], pending: &mut [u32]) -> Outcome
+pub fn commit(mut m: Machine, core: u32, committed: &mut [u32], pending: &mut [u32]) -> Outcome
     requires { ⌜ Fine (lent m (now committed) (now pending)) ⌝ }
     ensures rule { λ r. ⌜ left r (now (committed .exit)) (now (pending .exit)) ≡ commitRule (named (r .answer)) (lent m (now (committed .entry)) (now (pending .entry))) core ⌝ }
     ensures waits { λ r. ⌜ ((e : ℕ) → r .answer ≡ Answer.Waits e → contender m core e ≡ true) ⌝ }
@@ -211,11 +210,10 @@ pub fn commit(m: Machine, core: u32, committed: &mut [u32], pending: &mut [u32])
     if k.active {
         if k.zombie {
             let told = without_mark(k);
-            let mut n = m;
-            n.core[c] = told;
+            m.core[c] = told;
             return Outcome {
                 answer: Answer::SetBack,
-                machine: n,
+                machine: m,
             };
         }
         match contender_of(m, c) {
