@@ -1,6 +1,6 @@
 -- `machine::inside::commit::cores_after` meets its contract. After the turn of core e, the first e + 1 cores are as the commit
 -- leaves them. Assumes nothing.
-use mathlib.Core.Path.{_≡_, refl, ap, _∙_}
+use mathlib.Core.Path.{_≡_, refl, sym, ap, _∙_}
 use mathlib.Core.Logic.{⊎-elim}
 use Prim.Native.Nat.{_+_, _-_, _≤_}
 use native.Mathlib.Omega.{arith}
@@ -8,7 +8,7 @@ use lib.ListN.{length, set}
 use borrow.Author.Needs.{needs}
 use Rattle.machine.specs.Rule.{cleared}
 use Rattle.machine.proofs.Front.{Stands}
-use Rattle.machine.proofs.CommitLaws.{cleared-next, cleared-own, cleared-other, cleared-done}
+use Rattle.machine.proofs.CommitLaws.{cleared-next, cleared-own, cleared-struck, cleared-missed, cleared-done}
 use Rattle.machine.proofs.inside.commit.cores_after.Statement.{statement}
 use Rattle.machine.proofs.inside.commit.cores_after.Tie as tie
 
@@ -36,10 +36,13 @@ mul-cores c = search needs
 array-set-from-cores : tie.Need-array-set-from-cores Inv-loop μ-loop
 array-set-from-cores c = search needs
 
-struck-by-requires : tie.Need-struck-by-requires Inv-loop μ-loop
-struck-by-requires c κs =
-    let start = c .before .before .before .before in
-    let at = c .before .before .before .loop in
+is-struck-requires : tie.Need-is-struck-requires Inv-loop μ-loop
+is-struck-requires c κs = search needs
+
+set-back-requires : tie.Need-set-back-requires Inv-loop μ-loop
+set-back-requires c κs =
+    let start = c .before .before .before .before .before .before in
+    let at = c .before .before .before .before .before .loop in
     let long : length (start .args .t1) ≡ 16 = search needs in
     rw (cleared-next (start .args .ws) (start .args .c) (start .args .t1) (at .e) (at .cores) (at .inv .1) (omega arith))
     (start .pre .1 .1 .0 (at .e) (omega arith))
@@ -65,8 +68,11 @@ loop-again c =
       ⊎-elim
           (λ w. cleared-own (start .args .ws) (start .args .c) (start .args .t1) (at .e) (at .cores) (at .inv .1) (omega arith) _ (w .0 .taken)
           (w .2 ∙ ap (set (at .cores) (at .e)) (w .1 .ensures)))
-          (λ w. cleared-other (start .args .ws) (start .args .c) (start .args .t1) (at .e) (at .cores) (at .inv .1) (omega arith) _ (w .0 .left)
-          (w .2 ∙ ap (set (at .cores) (at .e)) (w .1 .ensures)))
+          (⊎-elim
+          (λ w. cleared-struck (start .args .ws) (start .args .c) (start .args .t1) (at .e) (at .cores) (at .inv .1) (omega arith) _ (w .0 .left)
+          (sym (w .1 .ensures) ∙ w .2 .taken) (w .4 ∙ ap (set (at .cores) (at .e)) (w .3 .ensures)))
+          (λ w. cleared-missed (start .args .ws) (start .args .c) (start .args .t1) (at .e) (at .cores) (at .inv .1) (omega arith) _ (w .0 .left)
+          (sym (w .1 .ensures) ∙ w .2 .left) (w .3)))
           (c .if1 .came),
     )
 
@@ -90,7 +96,8 @@ cores-after-spec =
     without-transaction-requires
     mul-cores
     array-set-from-cores
-    struck-by-requires
+    is-struck-requires
+    set-back-requires
     mul-cores-2
     array-set-from-cores-2
     add-e
