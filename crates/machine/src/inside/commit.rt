@@ -3,6 +3,7 @@ use crate::Answer;
 use crate::Core;
 use crate::Machine;
 use crate::Outcome;
+use crate::inside::access::tell;
 use crate::inside::transaction::without_transaction;
 ghost use mathlib.Core.Path.{_≡_};
 ghost use mathlib.Core.Bool.{true, false, _&&_};
@@ -14,14 +15,8 @@ ghost use Rattle.machine.specs.Record.{noCore, coreAt, dataSet};
 ghost use Rattle.machine.specs.Sound.{sound};
 ghost use Rattle.machine.specs.Answers.{named};
 ghost use Rattle.machine.specs.Inside.{Fine};
-ghost use Rattle.machine.specs.Rule.{lent, left, conflict, contender, blocked, unmarked, aborted, cleared, changed, through};
+ghost use Rattle.machine.specs.Rule.{lent, left, conflict, contender, aborted, cleared, changed, through};
 ghost use Rattle.machine.specs.Rule.{commit as commitRule};
-
-// Who holds a transaction back: the core of a conflicting transaction with a smaller ticket, or nobody.
-enum Ahead {
-    At(u8),
-    Nobody,
-}
 
 // Whether two transactions conflict: the write set of either meets the data set of the other.
 fn conflict_of(a: Core, b: Core) -> bool
@@ -44,34 +39,6 @@ fn holds_back(b: Core, a: Core) -> bool
         return false;
     }
     false
-}
-
-// The first core that holds a conflicting transaction with a smaller ticket than core c's, if there is one.
-fn contender_of(m: Machine, c: usize) -> Ahead
-    requires { ⌜ sound m ≡ true ⌝ }
-    requires { ⌜ c < 16 ⌝ }
-    ensures found { λ r. ⌜ ((e : ℕ) → r ≡ Ahead.At e → (e < 16) × (contender m c e ≡ true)) ⌝ }
-    ensures none { λ r. ⌜ (r ≡ Ahead.Nobody → blocked m c ≡ false) ⌝ }
-{
-    let own = m.core[c];
-    let mut e: u8 = 0;
-    while e < m.cores {
-        let other = m.core[e as usize];
-        if holds_back(other, own) {
-            return Ahead::At(e);
-        }
-        e += 1;
-    }
-    Ahead::Nobody
-}
-
-// Core k with its transaction's mark taken away; all else stays.
-fn without_mark(k: Core) -> Core
-    ensures { λ r. ⌜ r ≡ unmarked k ⌝ }
-{
-    let mut told = k;
-    told.zombie = false;
-    told
 }
 
 // Whether another's commit of the write set ws strikes core k: it has a transaction whose data set meets ws.
@@ -176,7 +143,7 @@ fn carry_through(m: Machine, c: usize, committed: &mut [u32], pending: &[u32]) -
 // transaction is told that it was set back, and loses its mark and nothing more. One that conflicts with a smaller ticket
 // waits. Any other goes through. A refusal or a wait leaves the record and both tables as they are, and no call changes the
 // pending table.
-pub fn commit(mut m: Machine, core: u32, committed: &mut [u32], pending: &mut [u32]) -> Outcome
+pub fn commit(m: Machine, core: u32, committed: &mut [u32], pending: &mut [u32]) -> Outcome
     requires { ⌜ Fine (lent m (now committed) (now pending)) ⌝ }
     ensures rule { λ r. ⌜ left r (now (committed .exit)) (now (pending .exit)) ≡ commitRule (named (r .answer)) (lent m (now (committed .entry)) (now (pending .entry))) core ⌝ }
     ensures waits { λ r. ⌜ ((e : ℕ) → r .answer ≡ Answer.Waits e → contender m core e ≡ true) ⌝ }
@@ -191,20 +158,20 @@ pub fn commit(mut m: Machine, core: u32, committed: &mut [u32], pending: &mut [u
     let k = m.core[c];
     if k.active {
         if k.zombie {
-            let told = without_mark(k);
-            m.core[c] = told;
-            return Outcome {
-                answer: Answer::SetBack,
-                machine: m,
-            };
+            return tell(m, c);
         }
-        match contender_of(m, c) {
-            Ahead::At(e) => Outcome {
-                answer: Answer::Waits(e),
-                machine: m,
-            },
-            Ahead::Nobody => carry_through(m, c, committed, pending),
+        let mut e: u8 = 0;
+        while e < m.cores {
+            let other = m.core[e as usize];
+            if holds_back(other, k) {
+                return Outcome {
+                    answer: Answer::Waits(e),
+                    machine: m,
+                };
+            }
+            e += 1;
         }
+        carry_through(m, c, committed, pending)
     } else {
         Outcome {
             answer: Answer::Refused(9),
