@@ -5,6 +5,7 @@ cd "$(dirname "$0")/.."
 tests/tool.sh rt cargo gcc valgrind
 
 out=target/bench
+valgrind=$(command -v valgrind)
 few=10
 many=110
 mkdir -p "$out"
@@ -12,9 +13,10 @@ rt staticlib bench_calls >"$out/staticlib.log" 2>&1 || { tail -20 "$out/staticli
 cargo build --quiet --release --offline --manifest-path bench/reference/Cargo.toml --target-dir "$out/reference"
 gcc -O2 -o "$out/calls" bench/calls.c target/staticlib/libbench_calls.a "$out/reference/release/libbench_reference.a" -lpthread -ldl -lm
 
-# counted WHICH CORES CALL COUNT: the instructions of the whole run of the list
+# counted WHICH CORES CALL COUNT: the instructions of the whole run of the list. With no environment: its size moves the stack, and
+# a copy costs a few instructions more or less by where it begins.
 counted() {
-  valgrind --quiet --tool=callgrind --callgrind-out-file="$out/profile" --toggle-collect="bench_calls_$1" \
+  env -i "$valgrind" --quiet --tool=callgrind --callgrind-out-file="$out/profile" --toggle-collect="bench_calls_$1" \
     "$out/calls" "$1" "$2" "$3" "$4" >"$out/answer.$1"
   sed -n 's/^summary: //p' "$out/profile"
 }

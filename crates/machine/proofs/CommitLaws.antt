@@ -7,6 +7,7 @@ use native.Mathlib.Nat.{mul-le-mul-right, suc-mul}
 use native.Mathlib.Omega.{arith}
 use lib.Dec.{ltb}
 use lib.ListN.{length, getD, set}
+use lib.Seq.{set-getD}
 use borrow.Author.Tests.{ltb-true, ltb-false, eq-eqb, ne-eqb}
 use Rattle.objset.specs.Objset.{has, some, meeting}
 use Rattle.objset.proofs.Laws.{one-some}
@@ -32,16 +33,20 @@ pub conflict-right : (a b : Core) (u v : ℕ) → u ≡ dataSet b → v ≡ data
     → meeting (b .writes) v ≡ conflict a b
 conflict-right a b u v e g p = rw (sym e, sym g, p)
 
--- ---- one core after another's commit; u is its data set
+-- ---- one core after another's commit
 
-module _ (ws : ℕ) (k : Core) (u : ℕ) where
-  pub struck-hit : k .active ≡ true → u ≡ dataSet k → meeting ws u ≡ true → aborted k ≡ struck ws k
-  unfolding struck
-  struck-hit on e p = rw (on, sym e, p)
+module _ (ws : ℕ) (k : Core) where
+  -- u is the data set of k
+  pub data-met : (u : ℕ) → k .active ≡ true → u ≡ dataSet k → meeting ws u ≡ (k .active && meeting ws (dataSet k))
+  data-met u on e = rw (on, sym e)
 
-  pub struck-missed : k .active ≡ true → u ≡ dataSet k → meeting ws u ≡ false → k ≡ struck ws k
+  pub struck-hit : (k .active && meeting ws (dataSet k)) ≡ true → aborted k ≡ struck ws k
   unfolding struck
-  struck-missed on e p = rw (on, sym e, p)
+  struck-hit p = rw p
+
+  pub struck-missed : (k .active && meeting ws (dataSet k)) ≡ false → k ≡ struck ws k
+  unfolding struck
+  struck-missed p = rw p
 
 pub struck-idle : (ws : ℕ) (k : Core) → k .active ≡ false → k ≡ struck ws k
 unfolding struck
@@ -61,11 +66,20 @@ module _ (ws c : ℕ) (old : List Core) where
         stands-stored (cleared ws c 0 old) old (cleared-long ws c 0 old) e now next noCore _ at l
         (ap over cleared-next ∙ sym (cleared-at ws c old e l ∙ rw (eq-eqb e c p) refl))
 
-    pub cleared-other : (next : List Core) → (e ≡ c → ⊥) → next ≡ set now e (struck ws (getD now e noCore))
+    cleared-other : (next : List Core) → (e ≡ c → ⊥) → next ≡ set now e (struck ws (getD now e noCore))
         → Stands (e + 1) (cleared ws c 0 old) old next
     cleared-other next p =
         stands-stored (cleared ws c 0 old) old (cleared-long ws c 0 old) e now next noCore _ at l
         (ap (struck ws) cleared-next ∙ sym (cleared-at ws c old e l ∙ rw (ne-eqb e c p) refl))
+
+    pub cleared-struck : (next : List Core) → (e ≡ c → ⊥) → (getD now e noCore .active && meeting ws (dataSet (getD now e noCore))) ≡ true
+        → next ≡ set now e (aborted (getD now e noCore)) → Stands (e + 1) (cleared ws c 0 old) old next
+    cleared-struck next p h q = cleared-other next p (q ∙ ap (set now e) (struck-hit ws (getD now e noCore) h))
+
+    pub cleared-missed : (next : List Core) → (e ≡ c → ⊥) → (getD now e noCore .active && meeting ws (dataSet (getD now e noCore))) ≡ false
+        → next ≡ now → Stands (e + 1) (cleared ws c 0 old) old next
+    cleared-missed next p h q =
+        cleared-other next p (q ∙ sym (set-getD now e noCore) ∙ ap (set now e) (struck-missed ws (getD now e noCore) h))
 
   -- the cores from n on have no transaction, and c is not among them
   pub cleared-done : (n : ℕ) (now : List Core) → Stands n (cleared ws c 0 old) old now → c < n
@@ -139,16 +153,16 @@ module _ (m : Machine) (s : sound m ≡ true) where
       go true on = omega (arith, stands m s .turns .bounded e l on, stands m s .few-cores)
       go false off = omega (arith, stands m s .tidy e l .idle-clear off .no-aborts)
 
-  -- what raising the versions of core c's write set asks: the set lies within the machine's objects, and a version is at most
-  -- the commits, which are fewer than the tickets while a transaction is in progress
-  pub versions-ready : (c : ℕ) → c < m .cores → coreAt m c .active ≡ true → length (m .versions) ≡ 64 → m .tickets ≤ 4294967295
-      → (m .objects ≤ length (m .versions))
-      × (((d : ℕ) → d < length (m .versions) → has (coreAt m c .writes) d ≡ true → d < m .objects)
-      × ((d : ℕ) → d < m .objects → getD (m .versions) d 0 < 4294967295))
-  versions-ready c h on long fit = (
+  -- what raising the versions of core c's write set asks, where n is the number of objects: the set lies within the first n, and
+  -- a version is at most the commits, which are fewer than the tickets while a transaction is in progress
+  pub versions-ready : (c n : ℕ) → c < m .cores → coreAt m c .active ≡ true → n ≡ m .objects → length (m .versions) ≡ 64 → m .tickets ≤ 4294967295
+      → (n ≤ length (m .versions))
+      × (((d : ℕ) → d < length (m .versions) → has (coreAt m c .writes) d ≡ true → d < n)
+      × ((d : ℕ) → d < n → getD (m .versions) d 0 < 4294967295))
+  versions-ready c n h on all long fit = (
     omega (arith, stands m s .few-objects),
     (
-      λ d l p. stands m s .tidy c (core-place m s c h) .writes-within d (omega arith) p,
+      λ d l p. omega (arith, stands m s .tidy c (core-place m s c h) .writes-within d (omega arith) p),
       λ d l. omega (arith, stands m s .versions-bounded d (omega (arith, stands m s .few-objects)), one-open m s c h on),
     ),
   )

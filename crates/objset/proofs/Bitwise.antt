@@ -1,13 +1,13 @@
 -- The bitwise operators on 64-bit words are the definitions by membership. Assumes nothing.
 use mathlib.Core.Path.{_≡_, refl, sym, ap, ap₂, _∙_, subst}
 use mathlib.Core.Bool.{Bool, true, false, not, _&&_, _||_, true≢false}
-use Prim.Native.Nat.{ℕ, zero, suc, _^_, _≤_, _<_}
+use Prim.Native.Nat.{ℕ, zero, suc, _*_, _%_, _^_, _≤_, _<_}
 use native.Mathlib.Omega.{arith}
-use native.Mathlib.Nat.{lt-of-lt-of-le, le-of-lt}
+use native.Mathlib.Nat.{lt-of-lt-of-le, le-of-lt, one-mul, mod-eq-of-lt}
 use lib.Bits.{bitAnd, bitOr, and-lt, or-lt}
 use lib.Dec.{eqb, ltb}
 use lib.Pow.{pow-lt, pow-mono}
-use borrow.Author.Tests.{lt-ltb, le-ltb, ltb-true, ltb-false, eqb-true, eqb-false, eq-eqb, ne-eqb}
+use borrow.Author.Tests.{lt-ltb, le-ltb, ltb-true, ltb-false, eqb-false, eq-eqb, ne-eqb}
 use Rattle.objset.specs.Objset.{has, collect, added, joined, meeting, below}
 use Rattle.objset.proofs.Digits.{has-or, has-and, has-mask, has-zero, has-past, collect-fits, has-collect, same-digits}
 use Rattle.objset.proofs.Laws.{same-members, has-added, has-joined, added-fits, joined-fits, meeting-one, one-meeting, below-member, member-below, member-bound}
@@ -47,19 +47,9 @@ and-meeting a b ha hb = go (meeting a b) refl
         apart true false h = refl
         apart false y h = refl
 
--- `s & mask of d` is not 0 if and only if d is in s
-pub and-has : (s d : ℕ) → s < 2 ^ 64 → d < 64 → not (eqb (bitAnd s (2 ^ d)) 0) ≡ has s d
-and-has s d hs hd = and-meeting s (2 ^ d) hs (pow-lt hd) ∙ go (has s d) refl
-  where
-    go : (m : Bool) → has s d ≡ m → meeting s (2 ^ d) ≡ m
-    go true t = one-meeting s (2 ^ d) d hs t (has-mask d d ∙ eq-eqb d d refl)
-    go false t = only (meeting s (2 ^ d)) refl
-      where
-        only : (q : Bool) → meeting s (2 ^ d) ≡ q → q ≡ false
-        only true u =
-            let w = meeting-one s (2 ^ d) u in
-            sym (w .2) ∙ ap (has s) (eqb-true (w .0) d (sym (has-mask d (w .0)) ∙ w .3)) ∙ t
-        only false u = refl
+-- `1 << n` is the mask of n
+pub shifted-one : (n : ℕ) → n < 64 → 1 * 2 ^ n % 2 ^ 64 ≡ 2 ^ n
+shifted-one n h = ap (λ (x : ℕ). x % 2 ^ 64) (one-mul (2 ^ n)) ∙ mod-eq-of-lt (pow-lt h)
 
 -- a word below the mask of n lies within the first n objects
 fits-below : (s n : ℕ) → s < 2 ^ n → below s n ≡ true

@@ -92,7 +92,7 @@ pub fn empty() -> u64
 pub fn contains(s: u64, d: usize) -> bool
     ensures { λ r. ⌜ r ≡ has s d ⌝ }
 {
-    if d < 64 { s & mask(d) != 0 } else { false }
+    if d < 64 { (s >> d) % 2 == 1 } else { false }
 }
 
 // The set s with object d added: s itself, where d is 64 or more.
@@ -120,5 +120,5 @@ pub fn meets(a: u64, b: u64) -> bool
 pub fn within(s: u64, n: usize) -> bool
     ensures { λ r. ⌜ r ≡ below s n ⌝ }
 {
-    if n < 64 { s < mask(n) } else { true }
+    if n < 64 { s < (1 << n) } else { true }
 }

@@ -10,17 +10,16 @@ ghost use Rattle.machine.specs.Rule.{lent, left, unmarked, read as readR
 ghost use Rattle.machine.specs.declared.Answer.the-variants.{SetBack};
 
 // A marked transaction on core c is told that it was set back: the mark is taken away, and nothing more.
-pub fn tell(m: Machine, c: usize) -> Outcome
+pub fn tell(mut m: Machine, c: usize) -> Outcome
     requires { ⌜ c < 16 ⌝ }
     ensures { λ r. ⌜ r ≡ record { answer = SetBack; machine = putCore m c (unmarked (coreAt m c)) } ⌝ }
 {
     let mut k = m.core[c];
     k.zombie = false;
-    let mut n = m;
-    n.core[c] = k;
+    m.core[c] = k;
     Outcome {
         answer: Answer::SetBack,
-        machine: n,
+        machine: m,
     }
 }
 
@@ -34,7 +33,7 @@ fn slot(c: usize, objects: usize, d: usize) -> usize
 
 // The card's pending value if this attempt wrote it, else its committed value, with the committed version; the card joins the
 // read set. 4 no such core, 5 no such card, 9 no transaction in progress. Both tables keep every word.
-pub fn read(m: Machine, core: u32, card: u32, committed: &[u32], pending: &[u32]) -> Outcome
+pub fn read(mut m: Machine, core: u32, card: u32, committed: &[u32], pending: &[u32]) -> Outcome
     requires { ⌜ Fine (lent m (now committed) (now pending)) ⌝ }
     ensures { λ r. ⌜ left r (now (committed .entry)) (now (pending .entry)) ≡ readRule (lent m (now (committed .entry)) (now (pending .entry))) core card ⌝ }
 {
@@ -58,21 +57,20 @@ pub fn read(m: Machine, core: u32, card: u32, committed: &[u32], pending: &[u32]
             return tell(m, c);
         }
         k.reads = objset::insert(k.reads, d);
-        let mut n = m;
-        n.core[c] = k;
+        m.core[c] = k;
         let version = m.versions[d];
         if objset::contains(k.writes, d) {
             let at = slot(c, m.objects as usize, d);
             let own = pending[at];
             Outcome {
                 answer: Answer::Value(own, version),
-                machine: n,
+                machine: m,
             }
         } else {
             let shared = committed[d];
             Outcome {
                 answer: Answer::Value(shared, version),
-                machine: n,
+                machine: m,
             }
         }
     } else {
@@ -86,7 +84,7 @@ pub fn read(m: Machine, core: u32, card: u32, committed: &[u32], pending: &[u32]
 // Stores the pending word; the card joins the write set. 4 no such core, 5 no such card, 9 no transaction in progress. No other
 // word of the pending table changes.
 pub fn write(
-    m: Machine,
+    mut m: Machine,
     core: u32,
     card: u32,
     value: u32,
@@ -116,13 +114,12 @@ pub fn write(
             return tell(m, c);
         }
         k.writes = objset::insert(k.writes, d);
-        let mut n = m;
-        n.core[c] = k;
+        m.core[c] = k;
         let at = slot(c, m.objects as usize, d);
         pending[at] = value;
         Outcome {
             answer: Answer::Written,
-            machine: n,
+            machine: m,
         }
     } else {
         Outcome {

@@ -3,25 +3,20 @@ use crate::Answer;
 use crate::Core;
 use crate::Machine;
 use crate::Outcome;
+use crate::inside::access::tell;
 use crate::inside::transaction::without_transaction;
 ghost use mathlib.Core.Path.{_≡_};
 ghost use mathlib.Core.Bool.{true, false, _&&_};
 ghost use Prim.Native.Nat.{ℕ, _+_, _*_, _≤_, _<_};
 ghost use lib.Dec.{ltb};
 ghost use lib.ListN.{length, getD};
-ghost use Rattle.objset.specs.Objset.{has};
-ghost use Rattle.machine.specs.Record.{noCore, coreAt};
+ghost use Rattle.objset.specs.Objset.{has, meeting};
+ghost use Rattle.machine.specs.Record.{noCore, coreAt, dataSet};
 ghost use Rattle.machine.specs.Sound.{sound};
 ghost use Rattle.machine.specs.Answers.{named};
 ghost use Rattle.machine.specs.Inside.{Fine};
-ghost use Rattle.machine.specs.Rule.{lent, left, conflict, contender, blocked, unmarked, struck, over, cleared, changed, through};
+ghost use Rattle.machine.specs.Rule.{lent, left, conflict, contender, aborted, cleared, changed, through};
 ghost use Rattle.machine.specs.Rule.{commit as commitRule};
-
-// Who holds a transaction back: the core of a conflicting transaction with a smaller ticket, or nobody.
-enum Ahead {
-    At(u8),
-    Nobody,
-}
 
 // Whether two transactions conflict: the write set of either meets the data set of the other.
 fn conflict_of(a: Core, b: Core) -> bool
@@ -46,111 +41,65 @@ fn holds_back(b: Core, a: Core) -> bool
     false
 }
 
-// The first core that holds a conflicting transaction with a smaller ticket than core c's, if there is one.
-fn contender_of(m: Machine, c: usize) -> Ahead
-    requires { ⌜ sound m ≡ true ⌝ }
-    requires { ⌜ c < 16 ⌝ }
-    ensures found { λ r. ⌜ ((e : ℕ) → r ≡ Ahead.At e → (e < 16) × (contender m c e ≡ true)) ⌝ }
-    ensures none { λ r. ⌜ (r ≡ Ahead.Nobody → blocked m c ≡ false) ⌝ }
-{
-    let own = m.core[c];
-    let mut e: u8 = 0;
-    while e < m.cores {
-        let other = m.core[e as usize];
-        if holds_back(other, own) {
-            return Ahead::At(e);
-        }
-        e += 1;
-    }
-    Ahead::Nobody
-}
-
-// Core k with its transaction's mark taken away; all else stays.
-fn without_mark(k: Core) -> Core
-    ensures { λ r. ⌜ r ≡ unmarked k ⌝ }
-{
-    let mut told = k;
-    told.zombie = false;
-    told
-}
-
-// Core k after another's commit of the write set ws: a transaction whose data set meets ws is aborted and marked, with
-// empty sets and one setback more; its ticket and jobs stay. Any other core is as it was.
-fn struck_by(ws: u64, k: Core) -> Core
-    requires { ⌜ k .aborts < 255 ⌝ }
-    ensures { λ r. ⌜ r ≡ struck ws k ⌝ }
+// Whether another's commit of the write set ws strikes core k: it has a transaction whose data set meets ws.
+fn is_struck(ws: u64, k: Core) -> bool
+    ensures { λ r. ⌜ r ≡ (k .active && meeting ws (dataSet k)) ⌝ }
 {
     if k.active {
-        if objset::meets(ws, objset::union(k.reads, k.writes)) {
-            let jobs = k.jobs;
-            let aborts = k.aborts + 1;
-            return Core {
-                jobs,
-                count: k.count,
-                active: k.active,
-                owner: k.owner,
-                ticket: k.ticket,
-                aborts,
-                zombie: true,
-                reads: 0,
-                writes: 0,
-            };
-        }
-        return k;
+        return objset::meets(ws, objset::union(k.reads, k.writes));
     }
+    false
+}
+
+// Core k with its transaction aborted and marked: empty sets and one setback more; its ticket and jobs stay.
+fn set_back(mut k: Core) -> Core
+    requires { ⌜ k .aborts < 255 ⌝ }
+    ensures { λ r. ⌜ r ≡ aborted k ⌝ }
+{
+    k.aborts = k.aborts + 1;
+    k.zombie = true;
+    k.reads = 0;
+    k.writes = 0;
     k
 }
 
 // The cores after core c commits the write set ws: c has no transaction, and each transaction that ws strikes is aborted.
 // Only the first n are looked at: no other has a transaction.
-fn cores_after(cores: [Core; 16], n: usize, c: usize, ws: u64) -> [Core; 16]
+fn cores_after(mut cores: [Core; 16], n: usize, c: usize, ws: u64) -> [Core; 16]
     requires { ⌜ n ≤ 16 ⌝ }
     requires { ⌜ c < n ⌝ }
     requires { ⌜ ((e : ℕ) → e < 16 → getD cores e noCore .aborts < 255) ⌝ }
     requires { ⌜ ((e : ℕ) → e < 16 → n ≤ e → getD cores e noCore .active ≡ false) ⌝ }
     ensures { λ r. ⌜ r ≡ cleared ws c 0 cores ⌝ }
 {
-    let mut after = cores;
     let mut e = 0;
     while e < n {
-        let k = after[e];
+        let k = cores[e];
         if e == c {
-            after[e] = without_transaction(k);
-        } else {
-            after[e] = struck_by(ws, k);
+            cores[e] = without_transaction(k);
+        } else if is_struck(ws, k) {
+            cores[e] = set_back(k);
         }
         e += 1;
     }
-    after
+    cores
 }
 
-// Raises the version of each object in the write set ws by one; the others keep theirs. Only the first n are looked at: ws
-// holds no other.
-fn raise_versions(ws: u64, n: usize, versions: &mut [u32])
-    requires { ⌜ n ≤ length (now versions) ⌝ }
-    requires { ⌜ ((d : ℕ) → d < length (now versions) → has ws d ≡ true → d < n) ⌝ }
-    requires { ⌜ ((d : ℕ) → d < n → getD (now versions) d 0 < 4294967295) ⌝ }
-    ensures { λ r. ⌜ now (versions .exit) ≡ changed ws (λ d v. v + 1) 0 (now (versions .entry)) ⌝ }
-{
-    let mut d = 0;
-    while d < n {
-        if objset::contains(ws, d) {
-            versions[d] = versions[d] + 1;
-        }
-        d += 1;
-    }
-}
-
-// Stores the pending value of each object in the write set ws as its committed value; the others keep theirs. The pending
-// values of the core start at base, and stay.
-fn move_cards(ws: u64, base: usize, committed: &mut [u32], pending: &[u32])
+// Stores the pending value of each object in the write set ws as its committed value and raises its version by one; the others
+// keep both. The pending values of the core start at base, and stay. The write set holds no object past the committed table.
+fn move_cards(ws: u64, base: usize, committed: &mut [u32], pending: &[u32], versions: &mut [u32])
     requires { ⌜ base + length (now committed) ≤ length (now pending) ⌝ }
-    ensures { λ r. ⌜ now (committed .exit) ≡ changed ws (λ d v. getD (now (pending .entry)) (base + d) 0) 0 (now (committed .entry)) ⌝ }
+    requires { ⌜ length (now committed) ≤ length (now versions) ⌝ }
+    requires { ⌜ ((d : ℕ) → d < length (now versions) → has ws d ≡ true → d < length (now committed)) ⌝ }
+    requires { ⌜ ((d : ℕ) → d < length (now committed) → getD (now versions) d 0 < 4294967295) ⌝ }
+    ensures cards { λ r. ⌜ now (committed .exit) ≡ changed ws (λ d v. getD (now (pending .entry)) (base + d) 0) 0 (now (committed .entry)) ⌝ }
+    ensures raised { λ r. ⌜ now (versions .exit) ≡ changed ws (λ d v. v + 1) 0 (now (versions .entry)) ⌝ }
 {
     let mut d = 0;
     while d < committed.len() {
         if objset::contains(ws, d) {
             committed[d] = pending[base + d];
+            versions[d] = versions[d] + 1;
         }
         d += 1;
     }
@@ -171,9 +120,8 @@ fn carry_through(m: Machine, c: usize, committed: &mut [u32], pending: &[u32]) -
 {
     let objects = m.objects as usize;
     let own = m.core[c];
-    move_cards(own.writes, c * objects, committed, pending);
     let mut versions = m.versions;
-    raise_versions(own.writes, objects, &mut versions);
+    move_cards(own.writes, c * objects, committed, pending, &mut versions);
     let cores = m.core;
     let core = cores_after(cores, m.cores as usize, c, own.writes);
     let commits = m.commits + 1;
@@ -210,21 +158,20 @@ pub fn commit(m: Machine, core: u32, committed: &mut [u32], pending: &mut [u32])
     let k = m.core[c];
     if k.active {
         if k.zombie {
-            let told = without_mark(k);
-            let mut n = m;
-            n.core[c] = told;
-            return Outcome {
-                answer: Answer::SetBack,
-                machine: n,
-            };
+            return tell(m, c);
         }
-        match contender_of(m, c) {
-            Ahead::At(e) => Outcome {
-                answer: Answer::Waits(e),
-                machine: m,
-            },
-            Ahead::Nobody => carry_through(m, c, committed, pending),
+        let mut e: u8 = 0;
+        while e < m.cores {
+            let other = m.core[e as usize];
+            if holds_back(other, k) {
+                return Outcome {
+                    answer: Answer::Waits(e),
+                    machine: m,
+                };
+            }
+            e += 1;
         }
+        carry_through(m, c, committed, pending)
     } else {
         Outcome {
             answer: Answer::Refused(9),

@@ -59,7 +59,7 @@ fn remove(mut jobs: [Job; 8], p: usize) -> [Job; 8]
 // A job joins the end of the core's list; the core's transaction and the other cores stay as they are. Answers Running if the
 // job is the core's running one now, else Queued. Refuses, and changes nothing, where there is no such core (4) or it has 8
 // jobs (6).
-pub fn release(m: Machine, core: u32, number: u16, deadline: u32) -> Outcome
+pub fn release(mut m: Machine, core: u32, number: u16, deadline: u32) -> Outcome
     requires { ⌜ sound m ≡ true ⌝ }
     ensures { λ r. ⌜ r ≡ release m core number deadline ⌝ }
 {
@@ -82,17 +82,16 @@ pub fn release(m: Machine, core: u32, number: u16, deadline: u32) -> Outcome
     let mut joined = k;
     joined.jobs[place] = Job { number, deadline };
     joined.count = count + 1;
-    let mut n = m;
-    n.core[c] = joined;
+    m.core[c] = joined;
     if running_of(joined) == count {
         Outcome {
             answer: Answer::Running,
-            machine: n,
+            machine: m,
         }
     } else {
         Outcome {
             answer: Answer::Queued,
-            machine: n,
+            machine: m,
         }
     }
 }
@@ -100,7 +99,7 @@ pub fn release(m: Machine, core: u32, number: u16, deadline: u32) -> Outcome
 // The running job leaves the core's list: the job of least deadline, since no transaction is in progress. The others keep their
 // order, and the other cores stay as they are. Answers the job's number. Refuses, and changes nothing, where there is no such
 // core (4), no job (7) or a transaction in progress (8).
-pub fn finish(m: Machine, core: u32) -> Outcome
+pub fn finish(mut m: Machine, core: u32) -> Outcome
     requires { ⌜ sound m ≡ true ⌝ }
     ensures { λ r. ⌜ r ≡ finish m core ⌝ }
 {
@@ -132,10 +131,9 @@ pub fn finish(m: Machine, core: u32) -> Outcome
     let mut left = k;
     left.jobs = rest;
     left.count = count - 1;
-    let mut n = m;
-    n.core[c] = left;
+    m.core[c] = left;
     Outcome {
         answer: Answer::Finished(number),
-        machine: n,
+        machine: m,
     }
 }

@@ -29,7 +29,7 @@ pub fn without_transaction(k: Core) -> Core
 
 // The running job's transaction gets the next ticket: 4 no such core, 7 the core has no job, 8 a transaction is in progress,
 // 10 every ticket is given.
-pub fn begin(m: Machine, core: u32) -> Outcome
+pub fn begin(mut m: Machine, core: u32) -> Outcome
     requires { ⌜ sound m ≡ true ⌝ }
     ensures { λ r. ⌜ r ≡ beginRule m core ⌝ }
 {
@@ -61,9 +61,8 @@ pub fn begin(m: Machine, core: u32) -> Outcome
         };
     }
     let jobs = k.jobs;
-    let mut n = m;
-    n.tickets = ticket + 1;
-    n.core[c] = Core {
+    m.tickets = ticket + 1;
+    m.core[c] = Core {
         jobs,
         count: k.count,
         active: true,
@@ -76,12 +75,12 @@ pub fn begin(m: Machine, core: u32) -> Outcome
     };
     Outcome {
         answer: Answer::Begun(ticket),
-        machine: n,
+        machine: m,
     }
 }
 
 // The transaction ends without effect.
-pub fn give_up(m: Machine, core: u32) -> Outcome
+pub fn give_up(mut m: Machine, core: u32) -> Outcome
     requires { ⌜ sound m ≡ true ⌝ }
     ensures { λ r. ⌜ r ≡ giveUp m core ⌝ }
 {
@@ -94,12 +93,11 @@ pub fn give_up(m: Machine, core: u32) -> Outcome
     let c = core as usize;
     let k = m.core[c];
     if k.active {
-        let mut n = m;
-        n.give_ups = m.give_ups + 1;
-        n.core[c] = without_transaction(k);
+        m.give_ups = m.give_ups + 1;
+        m.core[c] = without_transaction(k);
         Outcome {
             answer: Answer::Ended,
-            machine: n,
+            machine: m,
         }
     } else {
         Outcome {

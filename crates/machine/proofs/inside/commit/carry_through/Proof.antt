@@ -18,29 +18,26 @@ element-copy-out-own c = core-place _ (c .before .before .pre .0) _ (c .before .
 
 mul-move-cards : tie.Need-mul-move-cards
 mul-move-cards c =
-    let start = c .before .before .before in
-    omega (arith, row-within (start .args .c) (start .args .t1 .cores) (start .args .t1 .objects) (start .pre .1 .0))
-
-move-cards-requires : tie.Need-move-cards-requires
-move-cards-requires c κs =
     let start = c .before .before .before .before in
     omega (arith, row-within (start .args .c) (start .args .t1 .cores) (start .args .t1 .objects) (start .pre .1 .0))
 
-slice-aggregate-raise-versions : tie.Need-slice-aggregate-raise-versions
-slice-aggregate-raise-versions c = search needs
+slice-aggregate-move-cards : tie.Need-slice-aggregate-move-cards
+slice-aggregate-move-cards c = search needs
 
-raise-versions-requires : tie.Need-raise-versions-requires
-raise-versions-requires c κs =
-    let start = c .before .before .before .before .before .before .before .before .before in
-    let m = start .args .t1 in
-    versions-ready m (start .pre .0) (start .args .c) (start .pre .1 .0) (start .pre .1 .1 .0) (search needs) (omega arith)
+move-cards-requires : tie.Need-move-cards-requires
+move-cards-requires c κs =
+    let start = c .before .before .before .before .before .before in
+    let m = start .args .t1 in (
+      omega (arith, row-within (start .args .c) (m .cores) (m .objects) (start .pre .1 .0)),
+      versions-ready m (start .pre .0) (start .args .c) _ (start .pre .1 .0) (start .pre .1 .1 .0) (start .pre .1 .1 .1 .0) (search needs) (omega arith),
+    )
 
 cast-cores-after : tie.Need-cast-cores-after
 cast-cores-after c = search needs
 
 cores-after-requires : tie.Need-cores-after-requires
 cores-after-requires c κs =
-    let start = c .before .before .before .before .before .before .before .before .before .before .before .before in
+    let start = c .before .before .before .before .before .before .before .before .before .before .before in
     let m = start .args .t1 in (
       stands m (start .pre .0) .few-cores,
       (start .pre .1 .0, (few-aborts m (start .pre .0), λ e l p. stands m (start .pre .0) .turns .lacked e l p)),
@@ -48,7 +45,7 @@ cores-after-requires c κs =
 
 add-commits : tie.Need-add-commits
 add-commits c =
-    let start = c .before .before .before .before .before .before .before .before .before .before .before .before .before in
+    let start = c .before .before .before .before .before .before .before .before .before .before .before .before in
     omega (arith, one-open (start .args .t1) (start .pre .0) (start .args .c) (start .pre .1 .0) (start .pre .1 .1 .0))
 
 same-length : tie.Need-same-length
@@ -57,11 +54,8 @@ same-length c = search needs
 returns : tie.Need-returns
 unfolding through
 returns c =
-    rw (
-      c .cores-after .ensures,
-      c .before .before .before .raise-versions .ensures,
-      c .before .before .before .before .before .before .before .before .move-cards .ensures,
-    )
+    let moved = c .before .before .before .before .before .move-cards .ensures in
+    rw (c .cores-after .ensures, moved .1, moved .0)
 
 pub carry-through-spec : {M : Type 1} → statement M
 carry-through-spec =
@@ -71,9 +65,8 @@ carry-through-spec =
     mul-own
     element-copy-out-own
     mul-move-cards
+    slice-aggregate-move-cards
     move-cards-requires
-    slice-aggregate-raise-versions
-    raise-versions-requires
     cast-cores-after
     cores-after-requires
     add-commits

@@ -24,8 +24,8 @@ returns-2 c = release-full _ _ _ _ (c .before .before .before .pre) (c .before .
 cast-place : tie.Need-cast-place
 cast-place c = search needs
 
-mul-t17 : tie.Need-mul-t17
-mul-t17 c = search needs
+mul-t16 : tie.Need-mul-t16
+mul-t16 c = search needs
 
 element-set-from-joined : tie.Need-element-set-from-joined
 element-set-from-joined c = search needs
@@ -64,7 +64,7 @@ release-spec =
     element-copy-out-k
     returns-2
     cast-place
-    mul-t17
+    mul-t16
     element-set-from-joined
     add-joined
     mul-running-of

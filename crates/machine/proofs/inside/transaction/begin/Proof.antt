@@ -36,19 +36,19 @@ returns-4 c =
     let else1 = else2 .before .before .before in
     begin-spent _ _ (else1 .before .pre) (else1 .if1 .left) (else2 .if2 .left) (else3 .if3 .left) (c .if4 .taken)
 
-add-n : tie.Need-add-n
-add-n c = search needs
+add-m : tie.Need-add-m
+add-m c = search needs
 
 running-of-requires : tie.Need-running-of-requires
 running-of-requires c κs =
     let else1 = c .before .before .before .before .before .before in
     few-jobs _ (else1 .before .pre) _ (else1 .if1 .left)
 
-mul-t14 : tie.Need-mul-t14
-mul-t14 c = search needs
+mul-t13 : tie.Need-mul-t13
+mul-t13 c = search needs
 
-element-set-from-n : tie.Need-element-set-from-n
-element-set-from-n c =
+element-set-from-m : tie.Need-element-set-from-m
+element-set-from-m c =
     let else1 = c .before .before .before .before .before .before .before in
     core-place _ (else1 .before .pre) _ (else1 .if1 .left)
 
@@ -73,8 +73,8 @@ begin-spec =
     returns-2
     returns-3
     returns-4
-    add-n
+    add-m
     running-of-requires
-    mul-t14
-    element-set-from-n
+    mul-t13
+    element-set-from-m
     returns-5)

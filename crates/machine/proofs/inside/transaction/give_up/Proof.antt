@@ -20,17 +20,17 @@ mul-k c = search needs
 element-copy-out-k : tie.Need-element-copy-out-k
 element-copy-out-k c = core-place _ (c .before .pre) _ (c .if1 .left)
 
-add-n : tie.Need-add-n
-add-n c = omega (arith, one-open _ (c .before .before .before .pre) _ (c .before .before .if1 .left) (c .if2 .taken))
+add-m : tie.Need-add-m
+add-m c = omega (arith, one-open _ (c .before .before .before .pre) _ (c .before .before .if1 .left) (c .if2 .taken))
 
 without-transaction-requires : tie.Need-without-transaction-requires
 without-transaction-requires c κs = search needs
 
-mul-t21 : tie.Need-mul-t21
-mul-t21 c = search needs
+mul-t19 : tie.Need-mul-t19
+mul-t19 c = search needs
 
-element-set-from-n : tie.Need-element-set-from-n
-element-set-from-n c = core-place _ (c .before .before .before .before .pre) _ (c .before .before .before .if1 .left)
+element-set-from-m : tie.Need-element-set-from-m
+element-set-from-m c = core-place _ (c .before .before .before .before .pre) _ (c .before .before .before .if1 .left)
 
 returns-2 : tie.Need-returns-2
 unfolding ended
@@ -49,9 +49,9 @@ give-up-spec =
     returns
     mul-k
     element-copy-out-k
-    add-n
+    add-m
     without-transaction-requires
-    mul-t21
-    element-set-from-n
+    mul-t19
+    element-set-from-m
     returns-2
     returns-3)
