@@ -1,8 +1,8 @@
 -- Where a field ends, byte by byte, and how that cuts a line into its fields.
 -- Assumes nothing.
-use mathlib.Core.Path.{_≡_, refl, sym, ap, _∙_}
+use mathlib.Core.Path.{_≡_, refl, ap, _∙_}
 use mathlib.Core.Logic.{dite}
-use mathlib.Core.Bool.{Bool, true, false, cond, _&&_}
+use mathlib.Core.Bool.{Bool, true, false, cond}
 use mathlib.Core.List.{List, [], _∷_}
 use Prim.Native.Nat.{ℕ, suc, _+_, _-_, _≤_, _<_}
 use native.Mathlib.Decide.{decLt}
@@ -11,15 +11,15 @@ use native.Mathlib.Numerals.{add-one}
 use native.Mathlib.Omega.{arith}
 use lib.Dec.{eqb}
 use lib.ListN.{length, getD, take, drop, drop-of-length-le, length-drop}
-use lib.Seq.{drop-cons, drop-drop, drop-length}
-use borrow.Author.Tests.{eq-eqb, ne-eqb, le-leb, lt-leb}
+use lib.Seq.{drop-cons, drop-drop}
+use borrow.Author.Tests.{eq-eqb, ne-eqb, le-leb}
 use Rattle.script.specs.Pieces.{onto, pieces}
 use Rattle.script.specs.Line.{longest, untilSpace, fieldEnd, fields}
 use Rattle.script.specs.declared.fields.Spaces.{Spaces}
 use Rattle.script.specs.declared.fields.Bounds.{Bounds}
 use Rattle.script.specs.declared.fields.Bounds.the-variants.{Four, Other}
 use Rattle.script.specs.Spaces.{between, Spaced, Parted}
-use Rattle.script.proofs.Laws.{first, others, some-piece}
+use Rattle.script.proofs.Laws.{some-piece}
 
 -- ---- a field ends at a space, or goes on, or the line ends
 

@@ -1,13 +1,13 @@
 // A line of values. Assumes nothing.
-use crate::fields::Bounds;
-use crate::fields::cut;
-use crate::fields::part;
-use crate::fields::same;
 use crate::Call;
 use crate::Columns;
 use crate::Field;
 use crate::Line;
 use crate::Verb;
+use crate::fields::Bounds;
+use crate::fields::cut;
+use crate::fields::part;
+use crate::fields::same;
 use decimal::Number;
 ghost use mathlib.Core.Path.{_≡_};
 ghost use mathlib.Core.Bool.{cond};
@@ -55,11 +55,7 @@ fn verb(bytes: &[u8]) -> Verb
 fn named(bytes: &[u8], name: &[u8], v: Verb) -> Verb
     ensures { λ r. ⌜ r ≡ cond (same (now (bytes .entry)) (now (name .entry))) v Verb.Unknown ⌝ }
 {
-    if same(bytes, name) {
-        v
-    } else {
-        Verb::Unknown
-    }
+    if same(bytes, name) { v } else { Verb::Unknown }
 }
 
 // What stands in a field of a number.

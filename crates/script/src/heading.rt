@@ -1,11 +1,11 @@
 // The line of names. Assumes nothing.
+use crate::Columns;
+use crate::Names;
 use crate::fields::Bounds;
 use crate::fields::Spaces;
 use crate::fields::cut;
 use crate::fields::part;
 use crate::fields::same;
-use crate::Columns;
-use crate::Names;
 ghost use mathlib.Core.Path.{_≡_};
 ghost use Rattle.script.specs.Line.{fields, place, names};
 ghost use Rattle.script.specs.Spaces.{Spaced};
@@ -22,7 +22,12 @@ pub fn order(line: &[u8]) -> Names
     let card = place(line, s, b"card");
     let value = place(line, s, b"value");
     if call < 4 && core < 4 && card < 4 && value < 4 {
-        return Names::Order(Columns { call, core, card, value });
+        return Names::Order(Columns {
+            call,
+            core,
+            card,
+            value,
+        });
     }
     Names::Malformed
 }

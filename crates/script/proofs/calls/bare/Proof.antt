@@ -6,22 +6,16 @@ use Rattle.script.proofs.Takes.{not-unused}
 use borrow.Author.Needs.{needs}
 use Rattle.script.proofs.calls.bare.Statement.{statement}
 use Rattle.script.proofs.calls.bare.Tie as tie
-use Rattle.script.proofs.calls.bare.Reads as reads
-use Rattle.script.proofs.calls.bare.Lts as lts
-use Rattle.script.proofs.calls.ended.Reads as ended-reads
 
 enum-told : tie.Need-enum-told
 enum-told c = search needs
 
--- src/calls.rt:123:9
 returns : tie.Need-returns
 returns c = sym (not-unused _ _ (c .match .keys2))
 
--- src/calls.rt:125:5
 ended-requires : tie.Need-ended-requires
 ended-requires c κs = search needs
 
--- src/calls.rt:119:1
 returns-2 : tie.Need-returns-2
 unfolding unused
 returns-2 c = rw (c .before .enum-told .given .1) (c .ended .ensures)

@@ -6,17 +6,13 @@ use Rattle.script.proofs.Takes.{not-unused}
 use borrow.Author.Needs.{needs}
 use Rattle.script.proofs.calls.ended.Statement.{statement}
 use Rattle.script.proofs.calls.ended.Tie as tie
-use Rattle.script.proofs.calls.ended.Reads as reads
-use Rattle.script.proofs.calls.ended.Lts as lts
 
 enum-told : tie.Need-enum-told
 enum-told c = search needs
 
--- src/calls.rt:113:9
 returns : tie.Need-returns
 returns c = sym (not-unused _ _ (c .match .keys2))
 
--- src/calls.rt:109:1
 returns-2 : tie.Need-returns-2
 unfolding unused
 returns-2 c = rw (c .enum-told .given .1)

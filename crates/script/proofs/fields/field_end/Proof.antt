@@ -10,8 +10,6 @@ use Rattle.script.specs.Line.{fieldEnd}
 use Rattle.script.proofs.Ends.{ends-here, goes-on, line-ends}
 use Rattle.script.proofs.fields.field_end.Statement.{statement}
 use Rattle.script.proofs.fields.field_end.Tie as tie
-use Rattle.script.proofs.fields.field_end.Reads as reads
-use Rattle.script.proofs.fields.field_end.Lts as lts
 
 abbrev Inv-loop : tie.InvT-loop
 Inv-loop line from i₀ i = fieldEnd line i ≡ fieldEnd line from
@@ -19,11 +17,9 @@ Inv-loop line from i₀ i = fieldEnd line i ≡ fieldEnd line from
 abbrev μ-loop : tie.MeasureT-loop
 μ-loop line from i₀ i = length line - i
 
--- src/fields.rt:26:5
 loop-holds : tie.Need-loop-holds Inv-loop μ-loop
 loop-holds c = refl
 
--- src/fields.rt:27:12
 shared-slice-read-if1 : tie.Need-shared-slice-read-if1 Inv-loop μ-loop
 shared-slice-read-if1 c = omega arith
 
@@ -32,27 +28,23 @@ abbrev L : tie.In-loop Inv-loop μ-loop → List ℕ
 L c = now (c .before .before .args .line)
 
 returns : tie.Need-returns Inv-loop μ-loop
-returns c = 
+returns c =
     let turn = c .before .before in
     sym (ends-here (L turn) (turn .before .loop .i) (turn .loop-test .taken) (c .if1 .taken)) ∙ turn .before .loop .inv
 
--- src/fields.rt:30:9
 add-i : tie.Need-add-i Inv-loop μ-loop
 add-i c = omega arith
 
--- src/fields.rt:26:5
 loop-less : tie.Need-loop-less Inv-loop μ-loop
 loop-less c = omega arith
 
--- src/fields.rt:26:5
 loop-again : tie.Need-loop-again Inv-loop μ-loop
-loop-again c = 
+loop-again c =
     let turn = c .before .before in
     sym (goes-on (L turn) (turn .before .loop .i) (turn .loop-test .taken) (c .if1 .left)) ∙ turn .before .loop .inv
 
--- src/fields.rt:22:1
 returns-2 : tie.Need-returns-2 Inv-loop μ-loop
-returns-2 c = 
+returns-2 c =
     let at = c .before in
     sym (line-ends (now (at .before .args .line)) (at .loop .i) (c .loop-test .left)) ∙ at .loop .inv
 
