@@ -23,8 +23,8 @@ returns-2 : tie.Need-returns-2
 unfolding spelt number
 returns-2 c = rw (c .before .enum-told .given .1, c .before .before .before .before .core .given .1) (sym (no-number (c .before .before .before .before .before .before .args .card) _ (c .match3 .keys2)))
 
-ended-requires : tie.Need-ended-requires
-ended-requires c κs = search needs
+without-value-requires : tie.Need-without-value-requires
+without-value-requires c κs = search needs
 
 enum-told-2 : tie.Need-enum-told-2
 enum-told-2 c = search needs
@@ -35,8 +35,8 @@ release-requires c κs = search needs
 enum-told-3 : tie.Need-enum-told-3
 enum-told-3 c = search needs
 
-bare-requires : tie.Need-bare-requires
-bare-requires c κs = search needs
+core-alone-requires : tie.Need-core-alone-requires
+core-alone-requires c κs = search needs
 
 enum-told-4 : tie.Need-enum-told-4
 enum-told-4 c = search needs
@@ -48,8 +48,8 @@ returns-3 : tie.Need-returns-3
 unfolding spelt number
 returns-3 c = rw (c .before .enum-told4 .given .1, c .before .before .before .before .core .given .1) (sym (no-number (c .before .before .before .before .before .before .args .card) _ (c .match4 .keys2)))
 
-ended-requires-2 : tie.Need-ended-requires-2
-ended-requires-2 c κs = search needs
+without-value-requires-2 : tie.Need-without-value-requires-2
+without-value-requires-2 c κs = search needs
 
 enum-told-5 : tie.Need-enum-told-5
 enum-told-5 c = search needs
@@ -60,53 +60,53 @@ write-requires c κs = search needs
 enum-told-6 : tie.Need-enum-told-6
 enum-told-6 c = search needs
 
-bare-requires-2 : tie.Need-bare-requires-2
-bare-requires-2 c κs = search needs
+core-alone-requires-2 : tie.Need-core-alone-requires-2
+core-alone-requires-2 c κs = search needs
 
 enum-told-7 : tie.Need-enum-told-7
 enum-told-7 c = search needs
 
-bare-requires-3 : tie.Need-bare-requires-3
-bare-requires-3 c κs = search needs
+core-alone-requires-3 : tie.Need-core-alone-requires-3
+core-alone-requires-3 c κs = search needs
 
 enum-told-8 : tie.Need-enum-told-8
 enum-told-8 c = search needs
 
-bare-requires-4 : tie.Need-bare-requires-4
-bare-requires-4 c κs = search needs
+core-alone-requires-4 : tie.Need-core-alone-requires-4
+core-alone-requires-4 c κs = search needs
 
 enum-told-9 : tie.Need-enum-told-9
 enum-told-9 c = search needs
 
 returns-4 : tie.Need-returns-4
 unfolding spelt number
-returns-4 c = rw (c .before .before .before .before .enum-told .given .1, c .before .before .before .before .before .before .before .core .given .1, c .before .before .card .given .1) (c .ended .ensures)
+returns-4 c = rw (c .before .before .before .before .enum-told .given .1, c .before .before .before .before .before .before .before .core .given .1, c .before .before .card .given .1) (c .without-value .ensures)
 
 returns-5 : tie.Need-returns-5
 returns-5 c = rw (c .before .enum-told2 .given .1, c .before .before .before .before .core .given .1) (c .release .ensures)
 
 returns-6 : tie.Need-returns-6
 unfolding spelt number
-returns-6 c = rw (c .before .enum-told3 .given .1, c .before .before .before .before .core .given .1) (c .bare .ensures)
+returns-6 c = rw (c .before .enum-told3 .given .1, c .before .before .before .before .core .given .1) (c .core-alone .ensures)
 
 returns-7 : tie.Need-returns-7
 unfolding spelt number
-returns-7 c = rw (c .before .before .before .before .enum-told4 .given .1, c .before .before .before .before .before .before .before .core .given .1, c .before .before .card2 .given .1) (c .ended2 .ensures)
+returns-7 c = rw (c .before .before .before .before .enum-told4 .given .1, c .before .before .before .before .before .before .before .core .given .1, c .before .before .card2 .given .1) (c .without-value2 .ensures)
 
 returns-8 : tie.Need-returns-8
 returns-8 c = rw (c .before .enum-told5 .given .1, c .before .before .before .before .core .given .1) (c .write .ensures)
 
 returns-9 : tie.Need-returns-9
 unfolding spelt number
-returns-9 c = rw (c .before .enum-told6 .given .1, c .before .before .before .before .core .given .1) (c .bare2 .ensures)
+returns-9 c = rw (c .before .enum-told6 .given .1, c .before .before .before .before .core .given .1) (c .core-alone2 .ensures)
 
 returns-10 : tie.Need-returns-10
 unfolding spelt number
-returns-10 c = rw (c .before .enum-told7 .given .1, c .before .before .before .before .core .given .1) (c .bare3 .ensures)
+returns-10 c = rw (c .before .enum-told7 .given .1, c .before .before .before .before .core .given .1) (c .core-alone3 .ensures)
 
 returns-11 : tie.Need-returns-11
 unfolding spelt number
-returns-11 c = rw (c .before .enum-told8 .given .1, c .before .before .before .before .core .given .1) (c .bare4 .ensures)
+returns-11 c = rw (c .before .enum-told8 .given .1, c .before .before .before .before .core .given .1) (c .core-alone4 .ensures)
 
 returns-12 : tie.Need-returns-12
 unfolding spelt
@@ -121,23 +121,23 @@ spelt-spec =
     enum-told
     enum-known-card
     returns-2
-    ended-requires
+    without-value-requires
     enum-told-2
     release-requires
     enum-told-3
-    bare-requires
+    core-alone-requires
     enum-told-4
     enum-known-card-2
     returns-3
-    ended-requires-2
+    without-value-requires-2
     enum-told-5
     write-requires
     enum-told-6
-    bare-requires-2
+    core-alone-requires-2
     enum-told-7
-    bare-requires-3
+    core-alone-requires-3
     enum-told-8
-    bare-requires-4
+    core-alone-requires-4
     enum-told-9
     returns-4
     returns-5

@@ -1,11 +1,11 @@
--- `script::calls::ended` meets its contract: the field is unused, or the line spells nothing.
+-- `script::calls::without_value` meets its contract: the field is unused, or the line spells nothing.
 -- Assumes nothing.
 use mathlib.Core.Path.{sym}
 use Rattle.script.specs.Line.{unused}
 use Rattle.script.proofs.Takes.{not-unused}
 use borrow.Author.Needs.{needs}
-use Rattle.script.proofs.calls.ended.Statement.{statement}
-use Rattle.script.proofs.calls.ended.Tie as tie
+use Rattle.script.proofs.calls.without_value.Statement.{statement}
+use Rattle.script.proofs.calls.without_value.Tie as tie
 
 enum-told : tie.Need-enum-told
 enum-told c = search needs
@@ -17,5 +17,5 @@ returns-2 : tie.Need-returns-2
 unfolding unused
 returns-2 c = rw (c .enum-told .given .1)
 
-pub ended-spec : {M : Type 1} → statement M
-ended-spec = tie.close (tie.spec enum-told returns returns-2)
+pub without-value-spec : {M : Type 1} → statement M
+without-value-spec = tie.close (tie.spec enum-told returns returns-2)
