@@ -1,9 +1,9 @@
 -- `script::calls::core_alone` meets its contract: the first field is unused, or the line spells nothing; `without_value` says the same of the second.
 -- Assumes nothing.
 use mathlib.Core.Path.{sym}
+use borrow.Author.Needs.{needs}
 use Rattle.script.specs.Line.{unused}
 use Rattle.script.proofs.Takes.{not-unused}
-use borrow.Author.Needs.{needs}
 use Rattle.script.proofs.calls.core_alone.Statement.{statement}
 use Rattle.script.proofs.calls.core_alone.Tie as tie
 

@@ -1,8 +1,8 @@
 -- `script::calls::field` meets its contract, by what `same` and `decimal::read` answer.
 -- Assumes nothing.
 use mathlib.Core.Path.{sym, _∙_}
-use Rattle.script.specs.Line.{numbered, field}
 use borrow.Author.Needs.{needs}
+use Rattle.script.specs.Line.{numbered, field}
 use Rattle.script.proofs.calls.field.Statement.{statement}
 use Rattle.script.proofs.calls.field.Tie as tie
 
@@ -27,11 +27,15 @@ enum-told c = search needs
 
 returns-2 : tie.Need-returns-2
 unfolding field numbered
-returns-2 c = rw (sym (c .before .before .before .before .before .same .ensures) ∙ c .before .before .before .before .if1 .left, sym (c .before .before .before .read .ensures) ∙ c .before .n .given .1)
+returns-2 c =
+    let told = c .before .before .before in
+    rw (sym (told .before .before .same .ensures) ∙ told .before .if1 .left, sym (told .read .ensures) ∙ c .before .n .given .1)
 
 returns-3 : tie.Need-returns-3
 unfolding field numbered
-returns-3 c = rw (sym (c .before .before .before .before .same .ensures) ∙ c .before .before .before .if1 .left, sym (c .before .before .read .ensures) ∙ c .enum-told .given .1)
+returns-3 c =
+    let told = c .before .before in
+    rw (sym (told .before .before .same .ensures) ∙ told .before .if1 .left, sym (told .read .ensures) ∙ c .enum-told .given .1)
 
 pub field-spec : {M : Type 1} → statement M
 field-spec =

@@ -1,10 +1,12 @@
 -- `script::calls::parse` meets its contract: each part is the field that the definition takes, and `spelt` says what they spell.
 -- Assumes nothing.
 use mathlib.Core.Path.{sym}
+use denote.Ref.{now}
+use borrow.Author.Needs.{needs}
 use Rattle.script.specs.Line.{meant, spells}
+use Rattle.script.specs.Spaces.{Spaced}
 use Rattle.script.proofs.Laws.{no-call}
 use Rattle.script.proofs.Ends.{spaced, not-parted}
-use borrow.Author.Needs.{needs}
 use Rattle.script.proofs.calls.parse.Statement.{statement}
 use Rattle.script.proofs.calls.parse.Tie as tie
 
@@ -20,26 +22,30 @@ enum-told c = search needs
 returns : tie.Need-returns
 returns c = sym (no-call _ _ (not-parted _ (c .enum-told .given .1) (c .before .before .cut .ensures)))
 
+-- the line's three spaces were found
+known : (k : tie.After-known-told) → Spaced (now (k .before .before .before .before .before .args .line)) (k .before .s .given .0 .0)
+known k = spaced _ (k .before .s .given .1) (k .before .before .before .cut .ensures)
+
 part-requires : tie.Need-part-requires
-part-requires c κs = spaced _ (c .before .s .given .1) (c .before .before .before .cut .ensures)
+part-requires c κs = known c
 
 verb-requires : tie.Need-verb-requires
 verb-requires c κs = search needs
 
 part-requires-2 : tie.Need-part-requires-2
-part-requires-2 c κs = spaced _ (c .before .before .before .s .given .1) (c .before .before .before .before .before .cut .ensures)
+part-requires-2 c κs = known (c .before .before)
 
 field-requires : tie.Need-field-requires
 field-requires c κs = search needs
 
 part-requires-3 : tie.Need-part-requires-3
-part-requires-3 c κs = spaced _ (c .before .before .before .before .before .s .given .1) (c .before .before .before .before .before .before .before .cut .ensures)
+part-requires-3 c κs = known (c .before .before .before .before)
 
 field-requires-2 : tie.Need-field-requires-2
 field-requires-2 c κs = search needs
 
 part-requires-4 : tie.Need-part-requires-4
-part-requires-4 c κs = spaced _ (c .before .before .before .before .before .before .before .s .given .1) (c .before .before .before .before .before .before .before .before .before .cut .ensures)
+part-requires-4 c κs = known (c .before .before .before .before .before .before)
 
 field-requires-3 : tie.Need-field-requires-3
 field-requires-3 c κs = search needs

@@ -2,9 +2,9 @@
 -- Assumes nothing.
 use mathlib.Core.Path.{sym}
 use borrow.Author.Tests.{le-leb, lt-leb}
+use borrow.Author.Needs.{needs}
 use Rattle.script.specs.Line.{number, spelt}
 use Rattle.script.proofs.Takes.{no-number}
-use borrow.Author.Needs.{needs}
 use Rattle.script.proofs.calls.release.Statement.{statement}
 use Rattle.script.proofs.calls.release.Tie as tie
 

@@ -1,9 +1,9 @@
 -- `script::calls::spelt` meets its contract: each arm is the definition's clause for its verb, with the numbers that were taken out.
 -- Assumes nothing.
 use mathlib.Core.Path.{sym}
+use borrow.Author.Needs.{needs}
 use Rattle.script.specs.Line.{number, spelt}
 use Rattle.script.proofs.Takes.{no-number, no-core}
-use borrow.Author.Needs.{needs}
 use Rattle.script.proofs.calls.spelt.Statement.{statement}
 use Rattle.script.proofs.calls.spelt.Tie as tie
 
@@ -21,7 +21,9 @@ enum-known-card c = search needs
 
 returns-2 : tie.Need-returns-2
 unfolding spelt number
-returns-2 c = rw (c .before .enum-told .given .1, c .before .before .before .before .core .given .1) (sym (no-number (c .before .before .before .before .before .before .args .card) _ (c .match3 .keys2)))
+returns-2 c =
+    let core = c .before .before .before .before in
+    rw (c .before .enum-told .given .1, core .core .given .1) (sym (no-number (core .before .before .args .card) _ (c .match3 .keys2)))
 
 without-value-requires : tie.Need-without-value-requires
 without-value-requires c κs = search needs
@@ -46,7 +48,9 @@ enum-known-card-2 c = search needs
 
 returns-3 : tie.Need-returns-3
 unfolding spelt number
-returns-3 c = rw (c .before .enum-told4 .given .1, c .before .before .before .before .core .given .1) (sym (no-number (c .before .before .before .before .before .before .args .card) _ (c .match4 .keys2)))
+returns-3 c =
+    let core = c .before .before .before .before in
+    rw (c .before .enum-told4 .given .1, core .core .given .1) (sym (no-number (core .before .before .args .card) _ (c .match4 .keys2)))
 
 without-value-requires-2 : tie.Need-without-value-requires-2
 without-value-requires-2 c κs = search needs
@@ -80,7 +84,9 @@ enum-told-9 c = search needs
 
 returns-4 : tie.Need-returns-4
 unfolding spelt number
-returns-4 c = rw (c .before .before .before .before .enum-told .given .1, c .before .before .before .before .before .before .before .core .given .1, c .before .before .card .given .1) (c .without-value .ensures)
+returns-4 c =
+    let card = c .before .before in
+    rw (card .before .before .enum-told .given .1, card .before .before .before .before .before .core .given .1, card .card .given .1) (c .without-value .ensures)
 
 returns-5 : tie.Need-returns-5
 returns-5 c = rw (c .before .enum-told2 .given .1, c .before .before .before .before .core .given .1) (c .release .ensures)
@@ -91,7 +97,9 @@ returns-6 c = rw (c .before .enum-told3 .given .1, c .before .before .before .be
 
 returns-7 : tie.Need-returns-7
 unfolding spelt number
-returns-7 c = rw (c .before .before .before .before .enum-told4 .given .1, c .before .before .before .before .before .before .before .core .given .1, c .before .before .card2 .given .1) (c .without-value2 .ensures)
+returns-7 c =
+    let card = c .before .before in
+    rw (card .before .before .enum-told4 .given .1, card .before .before .before .before .before .core .given .1, card .card2 .given .1) (c .without-value2 .ensures)
 
 returns-8 : tie.Need-returns-8
 returns-8 c = rw (c .before .enum-told5 .given .1, c .before .before .before .before .core .given .1) (c .write .ensures)

@@ -1,13 +1,14 @@
 -- `script::calls::verb` meets its contract: the first byte leaves one name, and of two that begin with `r` the length leaves one.
 -- Assumes nothing.
-use mathlib.Core.List.{List}
+use mathlib.Core.Path.{_≡_, sym, _∙_}
+use mathlib.Core.List.{List, _∷_}
 use Prim.Native.Nat.{ℕ}
+use lib.ListN.{getD, drop}
 use denote.Ref.{now}
-use mathlib.Core.Path.{sym, _∙_}
+use borrow.Author.Needs.{needs}
 use Rattle.script.specs.Pieces.{same}
 use Rattle.script.specs.Line.{verb}
 use Rattle.script.proofs.Verbs.{led, empty-verb, only-read, only-release, unknown-verb}
-use borrow.Author.Needs.{needs}
 use Rattle.script.proofs.calls.verb.Statement.{statement}
 use Rattle.script.proofs.calls.verb.Tie as tie
 
@@ -69,40 +70,50 @@ named-requires-8 c κs = search needs
 abbrev F : tie.Else1 → List ℕ
 F c = now (c .before .before .args .bytes)
 
+first : (c : tie.Else1) (b : ℕ) → getD (F c) 0 0 ≡ b → F c ≡ b ∷ drop 1 (F c)
+first c b e = led (F c) b (c .if1 .left) e
+
 returns-2 : tie.Need-returns-2
 unfolding verb same
-returns-2 c = c .named .ensures ∙ rw (led (F (c .before .before .before .before)) 115 (c .before .before .before .before .if1 .left) (c .before .before .match .keys1))
+returns-2 c = c .named .ensures ∙ rw (first (c .before .before .before .before) 115 (c .before .before .match .keys1))
 
 returns-3 : tie.Need-returns-3
-returns-3 c = c .named2 .ensures ∙ sym (only-read _ (c .before .before .before .before .before .if1 .left) (c .before .before .before .match .keys2) (c .before .before .if2 .taken))
+returns-3 c =
+    let test = c .before .before .if2 .taken in
+    let start = c .before .before .before .before .before in
+    c .named2 .ensures ∙ sym (only-read (F start) (start .if1 .left) (c .before .before .before .match .keys2) test)
 
 returns-4 : tie.Need-returns-4
-returns-4 c = c .named3 .ensures ∙ sym (only-release _ (c .before .before .before .before .before .if1 .left) (c .before .before .before .match .keys2) (c .before .before .if2 .left))
+returns-4 c =
+    let test = c .before .before .if2 .left in
+    let start = c .before .before .before .before .before in
+    c .named3 .ensures ∙ sym (only-release (F start) (start .if1 .left) (c .before .before .before .match .keys2) test)
 
 returns-5 : tie.Need-returns-5
 unfolding verb same
-returns-5 c = c .named4 .ensures ∙ rw (led (F (c .before .before .before .before)) 98 (c .before .before .before .before .if1 .left) (c .before .before .match .keys3))
+returns-5 c = c .named4 .ensures ∙ rw (first (c .before .before .before .before) 98 (c .before .before .match .keys3))
 
 returns-6 : tie.Need-returns-6
 unfolding verb same
-returns-6 c = c .named5 .ensures ∙ rw (led (F (c .before .before .before .before)) 119 (c .before .before .before .before .if1 .left) (c .before .before .match .keys4))
+returns-6 c = c .named5 .ensures ∙ rw (first (c .before .before .before .before) 119 (c .before .before .match .keys4))
 
 returns-7 : tie.Need-returns-7
 unfolding verb same
-returns-7 c = c .named6 .ensures ∙ rw (led (F (c .before .before .before .before)) 99 (c .before .before .before .before .if1 .left) (c .before .before .match .keys5))
+returns-7 c = c .named6 .ensures ∙ rw (first (c .before .before .before .before) 99 (c .before .before .match .keys5))
 
 returns-8 : tie.Need-returns-8
 unfolding verb same
-returns-8 c = c .named7 .ensures ∙ rw (led (F (c .before .before .before .before)) 103 (c .before .before .before .before .if1 .left) (c .before .before .match .keys6))
+returns-8 c = c .named7 .ensures ∙ rw (first (c .before .before .before .before) 103 (c .before .before .match .keys6))
 
 returns-9 : tie.Need-returns-9
 unfolding verb same
-returns-9 c = c .named8 .ensures ∙ rw (led (F (c .before .before .before .before)) 102 (c .before .before .before .before .if1 .left) (c .before .before .match .keys7))
+returns-9 c = c .named8 .ensures ∙ rw (first (c .before .before .before .before) 102 (c .before .before .match .keys7))
 
 returns-10 : tie.Need-returns-10
 returns-10 c =
     let r = c .match .rest in
-    sym (unknown-verb _ (c .before .before .if1 .left) (r .0 .0 .0 .0 .0 .0 .1) (r .0 .0 .0 .0 .0 .1) (r .0 .0 .0 .0 .1) (r .0 .0 .0 .1) (r .0 .0 .1) (r .0 .1) (r .1))
+    sym
+    (unknown-verb _ (c .before .before .if1 .left) (r .0 .0 .0 .0 .0 .0 .1) (r .0 .0 .0 .0 .0 .1) (r .0 .0 .0 .0 .1) (r .0 .0 .0 .1) (r .0 .0 .1) (r .0 .1) (r .1))
 
 pub verb-spec : {M : Type 1} → statement M
 verb-spec =

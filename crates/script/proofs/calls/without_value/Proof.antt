@@ -1,9 +1,9 @@
 -- `script::calls::without_value` meets its contract: the field is unused, or the line spells nothing.
 -- Assumes nothing.
 use mathlib.Core.Path.{sym}
+use borrow.Author.Needs.{needs}
 use Rattle.script.specs.Line.{unused}
 use Rattle.script.proofs.Takes.{not-unused}
-use borrow.Author.Needs.{needs}
 use Rattle.script.proofs.calls.without_value.Statement.{statement}
 use Rattle.script.proofs.calls.without_value.Tie as tie
 

@@ -1,9 +1,9 @@
 -- `script::calls::write` meets its contract: the card and the value are numbers, or the line spells nothing.
 -- Assumes nothing.
 use mathlib.Core.Path.{sym}
+use borrow.Author.Needs.{needs}
 use Rattle.script.specs.Line.{number, spelt}
 use Rattle.script.proofs.Takes.{no-number}
-use borrow.Author.Needs.{needs}
 use Rattle.script.proofs.calls.write.Statement.{statement}
 use Rattle.script.proofs.calls.write.Tie as tie
 

@@ -1,10 +1,11 @@
 -- `script::fields::cut` meets its contract: three fields in a row end within the line and the fourth with it, or there are not four.
 -- Assumes nothing.
 use native.Mathlib.Omega.{arith}
+use denote.Ref.{now}
+use borrow.Author.Needs.{needs}
 use Rattle.script.specs.Spaces.{Parted}
 use Rattle.script.proofs.Laws.{no-fields}
-use Rattle.script.proofs.Ends.{not-before, near, four, over, under}
-use borrow.Author.Needs.{needs}
+use Rattle.script.proofs.Ends.{near, InRow, apart, four, over, under}
 use Rattle.script.proofs.fields.cut.Statement.{statement}
 use Rattle.script.proofs.fields.cut.Tie as tie
 
@@ -27,12 +28,20 @@ add-field-end-2 c = omega (arith, near _ _ _ (c .field-end2 .ensures), near _ _ 
 field-end-requires-3 : tie.Need-field-end-requires-3
 field-end-requires-3 c κs = search needs
 
+-- where three fields in a row end
+in-row : (p : tie.After-field-end3)
+    → InRow (now (p .before .before .before .before .before .args .line)) (p .before .before .field-end .result) (p .before .field-end2 .result)
+    (p .field-end3 .result)
+in-row p = record {
+  short = p .before .before .before .if1 .left;
+  one = p .before .before .field-end .ensures;
+  two = p .before .field-end2 .ensures;
+  three = p .field-end3 .ensures;
+}
+
 returns-2 : tie.Need-returns-2
 unfolding Parted
-returns-2 c =
-    let ended = c .before in
-    under _ (ended .before .before .before .if1 .left) _ _ _ (ended .before .before .field-end .ensures) (ended .before .field-end2 .ensures)
-    (ended .field-end3 .ensures) (c .if2 .taken)
+returns-2 c = under (in-row (c .before)) (c .if2 .taken)
 
 add-field-end-3 : tie.Need-add-field-end-3
 add-field-end-3 c = search needs
@@ -42,24 +51,14 @@ field-end-requires-4 c κs = search needs
 
 returns-3 : tie.Need-returns-3
 unfolding Parted
-returns-3 c =
-    let ended = c .before .before .before in
-    over _ (ended .before .before .before .if1 .left) _ _ _ (ended .before .before .field-end .ensures) (ended .before .field-end2 .ensures)
-    (ended .field-end3 .ensures) (c .before .before .if2 .left) (omega arith)
+returns-3 c = over (in-row (c .before .before .before)) (c .before .before .if2 .left) (omega arith)
 
 returns-4 : tie.Need-returns-4
 unfolding Parted
 returns-4 c =
-    let ended = c .before .before .before in
-    let past-first = not-before _ _ _ (ended .before .field-end2 .ensures) in
-    let past-second = not-before _ _ _ (ended .field-end3 .ensures) in
-    record {
-      one-two = omega arith;
-      two-three = omega arith;
-      within = c .before .before .if2 .left;
-      parts = four _ (ended .before .before .before .if1 .left) _ _ _ (ended .before .before .field-end .ensures) (ended .before .field-end2 .ensures)
-          (ended .field-end3 .ensures) (c .before .before .if2 .left) (omega arith);
-    }
+    let row = in-row (c .before .before .before) in
+    let inside = c .before .before .if2 .left in
+    record { one-two = apart row .0; two-three = apart row .1; within = inside; parts = four row inside (omega arith) }
 
 pub cut-spec : {M : Type 1} → statement M
 cut-spec =

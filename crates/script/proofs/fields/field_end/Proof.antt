@@ -1,11 +1,11 @@
 -- `script::fields::field_end` meets its contract. The loop's invariant: the field ends where it does from `i` on. The measure is what is
 -- left of the line. Assumes nothing.
-use denote.Ref.{now}
-use Prim.Native.Nat.{ℕ, _-_}
-use mathlib.Core.List.{List}
 use mathlib.Core.Path.{_≡_, refl, sym, _∙_}
+use mathlib.Core.List.{List}
+use Prim.Native.Nat.{ℕ, _-_}
 use native.Mathlib.Omega.{arith}
 use lib.ListN.{length}
+use denote.Ref.{now}
 use Rattle.script.specs.Line.{fieldEnd}
 use Rattle.script.proofs.Ends.{ends-here, goes-on, line-ends}
 use Rattle.script.proofs.fields.field_end.Statement.{statement}

@@ -1,14 +1,14 @@
 -- `script::fields::part` meets its contract: the four fields stand before, between and after the three spaces.
 -- Assumes nothing.
 use mathlib.Core.Path.{sym, ap}
-use Rattle.script.specs.Line.{fields}
-use Prim.Native.Nat.{_+_, _-_}
-use denote.Ref.{now}
-use lib.ListN.{length, drop, length-drop, List·getD-eq-default}
 use mathlib.Core.List.{[]}
+use Prim.Native.Nat.{_+_, _-_}
 use native.Mathlib.Omega.{arith}
+use lib.ListN.{length, drop, length-drop, List·getD-eq-default}
 use lib.Seq.{length-take-le, take-all}
+use denote.Ref.{now}
 use borrow.Author.Needs.{needs}
+use Rattle.script.specs.Line.{fields}
 use Rattle.script.proofs.fields.part.Statement.{statement}
 use Rattle.script.proofs.fields.part.Tie as tie
 

@@ -1,11 +1,11 @@
 -- `script::fields::same` meets its contract. The loop's invariant: what is left of two slices of one length is the same where they are.
 -- The measure is what is left. Assumes nothing.
-use denote.Ref.{now}
-use Prim.Native.Nat.{ℕ, _≤_, _-_}
-use mathlib.Core.List.{List}
 use mathlib.Core.Path.{_≡_, refl, sym, _∙_}
+use mathlib.Core.List.{List}
+use Prim.Native.Nat.{ℕ, _≤_, _-_}
 use native.Mathlib.Omega.{arith}
 use lib.ListN.{length, drop}
+use denote.Ref.{now}
 use Rattle.script.specs.Pieces.{same}
 use Rattle.script.proofs.Same.{other-length, differ, agree, same-end}
 use Rattle.script.proofs.fields.same.Statement.{statement}

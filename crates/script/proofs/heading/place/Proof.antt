@@ -1,14 +1,14 @@
 -- `script::heading::place` meets its contract. The loop's invariant: the name's place is as many fields after `i` as among the fields from
 -- `i` on. The measure is how many of the four are left. Assumes nothing.
+use mathlib.Core.Path.{_≡_, sym, ap, _∙_}
 use mathlib.Core.Bool.{true, false}
 use mathlib.Core.List.{List, []}
-use lib.ListN.{length, drop, getD}
-use Rattle.script.specs.Pieces.{same}
-use mathlib.Core.Path.{_≡_, sym, ap, _∙_}
 use Prim.Native.Nat.{ℕ, _+_, _-_, _≤_}
 use native.Mathlib.Omega.{arith}
-use borrow.Author.Needs.{needs}
+use lib.ListN.{length, drop, getD}
 use denote.Ref.{now}
+use borrow.Author.Needs.{needs}
+use Rattle.script.specs.Pieces.{same}
 use Rattle.script.specs.Line.{fields, place}
 use Rattle.script.proofs.Places.{found, passed, nowhere}
 use Rattle.script.proofs.heading.place.Statement.{statement}
