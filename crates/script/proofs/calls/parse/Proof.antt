@@ -1,6 +1,6 @@
 -- `script::calls::parse` meets its contract: each part is the field that the definition takes, and `spelt` says what they spell.
 -- Assumes nothing.
-use mathlib.Core.Path.{sym}
+use mathlib.Core.Path.{sym, _∙_}
 use denote.Ref.{now}
 use borrow.Author.Needs.{needs}
 use Rattle.script.specs.Line.{meant, spells}
@@ -55,7 +55,22 @@ spelt-requires c κs = search needs
 
 returns-2 : tie.Need-returns-2
 unfolding spells meant
-returns-2 c = cc
+returns-2 c =
+    let value = c .before in
+    let card = value .before .before in
+    let core = card .before .before in
+    let call = core .before .before in
+    c .spelt .ensures
+    ∙ rw (
+      call .verb .ensures,
+      call .before .part .ensures,
+      core .field .ensures,
+      core .before .part2 .ensures,
+      card .field2 .ensures,
+      card .before .part3 .ensures,
+      value .field3 .ensures,
+      value .before .part4 .ensures,
+    )
 
 pub parse-spec : {M : Type 1} → statement M
 parse-spec =

@@ -1,6 +1,7 @@
 -- `script::calls::release` meets its contract: the card and the value are numbers, the first at most 65,535, or the line spells nothing.
 -- Assumes nothing.
 use mathlib.Core.Path.{sym}
+use native.Mathlib.Omega.{arith}
 use borrow.Author.Tests.{le-leb, lt-leb}
 use borrow.Author.Needs.{needs}
 use Rattle.script.specs.Line.{number, spelt}
@@ -24,14 +25,20 @@ returns-2 c = rw (c .before .before .card .given .1) (sym (no-number (c .before 
 
 returns-3 : tie.Need-returns-3
 unfolding spelt number
-returns-3 c = rw (c .before .before .before .before .before .card .given .1, c .before .before .value .given .1, lt-leb _ _ (c .if1 .taken))
+returns-3 c =
+    let value = c .before .before in
+    let card = value .before .before .before in
+    rw (card .card .given .1, value .value .given .1, lt-leb (card .card .given .0 .0) 65535 (omega arith))
 
 cast-t7 : tie.Need-cast-t7
 cast-t7 c = search needs
 
 returns-4 : tie.Need-returns-4
 unfolding spelt number
-returns-4 c = rw (c .before .before .before .before .before .card .given .1, c .before .before .value .given .1, le-leb _ _ (c .if1 .left))
+returns-4 c =
+    let value = c .before .before in
+    let card = value .before .before .before in
+    rw (card .card .given .1, value .value .given .1, le-leb (card .card .given .0 .0) 65535 (omega arith))
 
 pub release-spec : {M : Type 1} → statement M
 release-spec =

@@ -11,7 +11,7 @@ use Rattle.script.proofs.fields.cut.Tie as tie
 
 returns : tie.Need-returns
 unfolding Parted
-returns c = no-fields _ (c .if1 .taken)
+returns c = no-fields (now (c .before .before .args .line)) (omega arith)
 
 field-end-requires : tie.Need-field-end-requires
 field-end-requires c κs = search needs
@@ -33,7 +33,7 @@ in-row : (p : tie.After-field-end3)
     → InRow (now (p .before .before .before .before .before .args .line)) (p .before .before .field-end .result) (p .before .field-end2 .result)
     (p .field-end3 .result)
 in-row p = record {
-  short = p .before .before .before .if1 .left;
+  short = omega arith;
   one = p .before .before .field-end .ensures;
   two = p .before .field-end2 .ensures;
   three = p .field-end3 .ensures;
@@ -41,7 +41,7 @@ in-row p = record {
 
 returns-2 : tie.Need-returns-2
 unfolding Parted
-returns-2 c = under (in-row (c .before)) (c .if2 .taken)
+returns-2 c = under (in-row (c .before)) (omega arith)
 
 add-field-end-3 : tie.Need-add-field-end-3
 add-field-end-3 c = search needs
@@ -51,14 +51,13 @@ field-end-requires-4 c κs = search needs
 
 returns-3 : tie.Need-returns-3
 unfolding Parted
-returns-3 c = over (in-row (c .before .before .before)) (c .before .before .if2 .left) (omega arith)
+returns-3 c = over (in-row (c .before .before .before)) (omega arith) (omega arith)
 
 returns-4 : tie.Need-returns-4
 unfolding Parted
 returns-4 c =
     let row = in-row (c .before .before .before) in
-    let inside = c .before .before .if2 .left in
-    record { one-two = apart row .0; two-three = apart row .1; within = inside; parts = four row inside (omega arith) }
+    record { one-two = apart row .0; two-three = apart row .1; within = omega arith; parts = four row (omega arith) (omega arith) }
 
 pub cut-spec : {M : Type 1} → statement M
 cut-spec =
