@@ -1,8 +1,8 @@
 -- Where a field ends, byte by byte, and how that cuts a line into its fields.
 -- Assumes nothing.
-use mathlib.Core.Path.{_≡_, refl, sym, ap, _∙_}
+use mathlib.Core.Path.{_≡_, refl, ap, _∙_}
 use mathlib.Core.Logic.{dite}
-use mathlib.Core.Bool.{Bool, true, false, cond, _&&_}
+use mathlib.Core.Bool.{Bool, true, false, cond}
 use mathlib.Core.List.{List, [], _∷_}
 use Prim.Native.Nat.{ℕ, suc, _+_, _-_, _≤_, _<_}
 use native.Mathlib.Decide.{decLt}
@@ -11,15 +11,15 @@ use native.Mathlib.Numerals.{add-one}
 use native.Mathlib.Omega.{arith}
 use lib.Dec.{eqb}
 use lib.ListN.{length, getD, take, drop, drop-of-length-le, length-drop}
-use lib.Seq.{drop-cons, drop-drop, drop-length}
-use borrow.Author.Tests.{eq-eqb, ne-eqb, le-leb, lt-leb}
+use lib.Seq.{drop-cons, drop-drop}
+use borrow.Author.Tests.{eq-eqb, ne-eqb, le-leb}
 use Rattle.script.specs.Pieces.{onto, pieces}
 use Rattle.script.specs.Line.{longest, untilSpace, fieldEnd, fields}
 use Rattle.script.specs.declared.fields.Spaces.{Spaces}
 use Rattle.script.specs.declared.fields.Bounds.{Bounds}
 use Rattle.script.specs.declared.fields.Bounds.the-variants.{Four, Other}
 use Rattle.script.specs.Spaces.{between, Spaced, Parted}
-use Rattle.script.proofs.Laws.{first, others, some-piece}
+use Rattle.script.proofs.Laws.{some-piece}
 
 -- ---- a field ends at a space, or goes on, or the line ends
 
@@ -109,34 +109,45 @@ module _ (line : List ℕ) (short : length line ≤ longest) where
   not-four : (ps : List (List ℕ)) → pieces 32 line ≡ ps → (length ps ≡ 4 → ⊥) → fields line ≡ []
   not-four ps e n = with-pieces ps e ∙ rw (ne-eqb (length ps) 4 n)
 
-module _ (line : List ℕ) (short : length line ≤ longest) (a b c : ℕ) (ea : a ≡ fieldEnd line 0) (eb : b ≡ fieldEnd line (a + 1)) (ec : c ≡ fieldEnd line (b + 1)) where
+-- three fields in a row end at a, b and c
+pub record InRow (line : List ℕ) (a b c : ℕ) : Type 0 where
+  pub short : length line ≤ longest
+  pub one : a ≡ fieldEnd line 0
+  pub two : b ≡ fieldEnd line (a + 1)
+  pub three : c ≡ fieldEnd line (b + 1)
+
+module _ {line : List ℕ} {a b c : ℕ} (row : InRow line a b c) where
   abbrev front : List (List ℕ) → List (List ℕ)
   front ps = take a line ∷ between (a + 1) b line ∷ between (b + 1) c line ∷ ps
 
-  three : c < length line → pieces 32 line ≡ front (pieces 32 (drop (c + 1) line))
-  three h =
-      let past-a = not-before line (a + 1) b eb in
-      let past-b = not-before line (b + 1) c ec in
-      cut-at line 0 a ea (omega arith) ∙ rw (cut-at line (a + 1) b eb (omega arith), cut-at line (b + 1) c ec h, sub-zero)
+  pub apart : (a < b) × (b < c)
+  apart = (omega (arith, not-before line (a + 1) b (row .two)), omega (arith, not-before line (b + 1) c (row .three)))
+
+  three-cut : c < length line → pieces 32 line ≡ front (pieces 32 (drop (c + 1) line))
+  three-cut h =
+      cut-at line 0 a (row .one) (omega (arith, apart))
+      ∙ rw (cut-at line (a + 1) b (row .two) (omega (arith, apart)), cut-at line (b + 1) c (row .three) h, sub-zero)
 
   pub four : c < length line → length line ≤ fieldEnd line (c + 1) → fields line ≡ front (drop (c + 1) line ∷ [])
-  four h l = with-pieces line short _ (three h ∙ ap front (cut-last line (c + 1) (fieldEnd line (c + 1)) refl l))
+  four h l = with-pieces line (row .short) _ (three-cut h ∙ ap front (cut-last line (c + 1) (fieldEnd line (c + 1)) refl l))
 
   pub over : c < length line → fieldEnd line (c + 1) < length line → fields line ≡ []
   over h l =
       let d = fieldEnd line (c + 1) in
       let last = some-piece 32 (drop (d + 1) line) in
-      not-four line short _
-      (three h ∙ ap front (cut-at line (c + 1) d refl l ∙ ap (_∷_ (between (c + 1) d line)) last))
+      not-four line (row .short) _
+      (three-cut h ∙ ap front (cut-at line (c + 1) d refl l ∙ ap (_∷_ (between (c + 1) d line)) last))
       (λ e. omega arith)
 
   pub under : length line ≤ c → fields line ≡ []
   under h =
       dite (decLt a (length line))
-      (λ ha. dite (decLt b (length line))
-      (λ hb. with-pieces line short _ (cut-at line 0 a ea ha ∙ ap (_∷_ (between 0 a line)) (cut-at line (a + 1) b eb hb ∙ ap (_∷_ (between (a + 1) b line)) (cut-last line (b + 1) c ec h))))
-      (λ nb. with-pieces line short _ (cut-at line 0 a ea ha ∙ ap (_∷_ (between 0 a line)) (cut-last line (a + 1) b eb (omega arith)))))
-      (λ na. with-pieces line short _ (cut-last line 0 a ea (omega arith)))
+      (λ ha. let one-cut = cut-at line 0 a (row .one) ha in
+      dite (decLt b (length line))
+      (λ hb. let two-cut = cut-at line (a + 1) b (row .two) hb in
+      with-pieces line (row .short) _ (one-cut ∙ ap (_∷_ (between 0 a line)) (two-cut ∙ ap (_∷_ (between (a + 1) b line)) (cut-last line (b + 1) c (row .three) h))))
+      (λ nb. with-pieces line (row .short) _ (one-cut ∙ ap (_∷_ (between 0 a line)) (cut-last line (a + 1) b (row .two) (omega arith)))))
+      (λ na. with-pieces line (row .short) _ (cut-last line 0 a (row .one) (omega arith)))
 
 -- ---- what a caller learns of the fields
 

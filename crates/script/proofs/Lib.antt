@@ -5,3 +5,4 @@ mod Ends
 mod Places
 mod Verbs
 mod Takes
+mod Examples

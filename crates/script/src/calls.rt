@@ -1,4 +1,4 @@
-// A line of values. Assumes nothing.
+// A line of values: its call's name, its three fields of a number, and the call that they spell. Assumes nothing.
 use crate::Call;
 use crate::Columns;
 use crate::Field;
@@ -83,26 +83,26 @@ fn spelt(verb: Verb, core: Field, card: Field, value: Field) -> Line
             let Field::Number(d) = card else {
                 return Line::Malformed;
             };
-            ended(Call::Setup(n, d), value)
+            without_value(Call::Setup(n, d), value)
         }
         Verb::Release => release(n, card, value),
-        Verb::Begin => bare(Call::Begin(n), card, value),
+        Verb::Begin => core_alone(Call::Begin(n), card, value),
         Verb::Read => {
             let Field::Number(d) = card else {
                 return Line::Malformed;
             };
-            ended(Call::Read(n, d), value)
+            without_value(Call::Read(n, d), value)
         }
         Verb::Write => write(n, card, value),
-        Verb::Commit => bare(Call::Commit(n), card, value),
-        Verb::GiveUp => bare(Call::GiveUp(n), card, value),
-        Verb::Finish => bare(Call::Finish(n), card, value),
+        Verb::Commit => core_alone(Call::Commit(n), card, value),
+        Verb::GiveUp => core_alone(Call::GiveUp(n), card, value),
+        Verb::Finish => core_alone(Call::Finish(n), card, value),
         Verb::Unknown => Line::Malformed,
     }
 }
 
 // A call that leaves the field of the value unused.
-fn ended(call: Call, value: Field) -> Line
+fn without_value(call: Call, value: Field) -> Line
     ensures { λ r. ⌜ r ≡ unused value (Line.Spells call) ⌝ }
 {
     let Field::Unused = value else {
@@ -112,15 +112,16 @@ fn ended(call: Call, value: Field) -> Line
 }
 
 // A call that leaves the fields of the card and the value unused.
-fn bare(call: Call, card: Field, value: Field) -> Line
+fn core_alone(call: Call, card: Field, value: Field) -> Line
     ensures { λ r. ⌜ r ≡ unused card (unused value (Line.Spells call)) ⌝ }
 {
     let Field::Unused = card else {
         return Line::Malformed;
     };
-    ended(call, value)
+    without_value(call, value)
 }
 
+// A write has a number under each of the three fields.
 fn write(n: u32, card: Field, value: Field) -> Line
     ensures { λ r. ⌜ r ≡ spelt Verb.Write (Field.Number n) card value ⌝ }
 {
@@ -133,6 +134,7 @@ fn write(n: u32, card: Field, value: Field) -> Line
     Line::Spells(Call::Write(n, d, v))
 }
 
+// A release too, and its job number, under card, is at most 65,535.
 fn release(n: u32, card: Field, value: Field) -> Line
     ensures { λ r. ⌜ r ≡ spelt Verb.Release (Field.Number n) card value ⌝ }
 {
@@ -142,7 +144,7 @@ fn release(n: u32, card: Field, value: Field) -> Line
     let Field::Number(deadline) = value else {
         return Line::Malformed;
     };
-    if 65535 < job {
+    if 65_535 < job {
         return Line::Malformed;
     }
     Line::Spells(Call::Release(n, job as u16, deadline))

@@ -7,10 +7,10 @@ ghost use Rattle.script.specs.Line.{fieldEnd, fields};
 ghost use Rattle.script.specs.Spaces.{Spaced, Parted};
 
 // The places of the three spaces of a line of four fields.
-pub struct Spaces(pub usize, pub usize, pub usize);
+pub(crate) struct Spaces(pub(crate) usize, pub(crate) usize, pub(crate) usize);
 
 // Where the fields of a line stand, or that they are not four.
-pub enum Bounds {
+pub(crate) enum Bounds {
     Four(Spaces),
     Other,
 }
@@ -33,7 +33,7 @@ pub fn field_end(line: &[u8], from: usize) -> usize
 }
 
 // Finds the three spaces of a line, one pass over it.
-pub fn cut(line: &[u8]) -> Bounds
+pub(crate) fn cut(line: &[u8]) -> Bounds
     ensures { λ r. ⌜ Parted (now (line .entry)) r ⌝ }
 {
     if LONGEST < line.len() {
@@ -52,7 +52,7 @@ pub fn cut(line: &[u8]) -> Bounds
 }
 
 // The bytes of a field, counted from 0; none past the last.
-pub fn part(line: &[u8], s: Spaces, n: usize) -> &[u8]
+pub(crate) fn part(line: &[u8], s: Spaces, n: usize) -> &[u8]
     requires { ⌜ Spaced (now line) s ⌝ }
     ensures { λ r. ⌜ now r ≡ getD (fields (now (line .entry))) n [] ⌝ }
 {
@@ -69,7 +69,7 @@ pub fn part(line: &[u8], s: Spaces, n: usize) -> &[u8]
 }
 
 // Whether two slices hold the same bytes.
-pub fn same(a: &[u8], b: &[u8]) -> bool
+pub(crate) fn same(a: &[u8], b: &[u8]) -> bool
     ensures { λ r. ⌜ r ≡ same (now (a .entry)) (now (b .entry)) ⌝ }
 {
     if a.len() != b.len() {

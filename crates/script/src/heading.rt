@@ -1,4 +1,4 @@
-// The line of names. Assumes nothing.
+// The line of names: where each name stands. Assumes nothing.
 use crate::Columns;
 use crate::Names;
 use crate::fields::Bounds;

@@ -1,49 +1,41 @@
 -- `script::calls::field` meets its contract, by what `same` and `decimal::read` answer.
 -- Assumes nothing.
 use mathlib.Core.Path.{sym, _∙_}
-use Rattle.script.specs.Line.{numbered, field}
 use borrow.Author.Needs.{needs}
+use Rattle.script.specs.Line.{numbered, field}
 use Rattle.script.proofs.calls.field.Statement.{statement}
 use Rattle.script.proofs.calls.field.Tie as tie
-use Rattle.script.proofs.calls.field.Reads as reads
-use Rattle.script.proofs.calls.field.Lts as lts
-use Rattle.decimal.proofs.read.Reads as read-reads
-use Rattle.script.proofs.fields.same.Reads as same-reads
 
--- src/calls.rt:69:20
 slice-aggregate-same : tie.Need-slice-aggregate-same
 slice-aggregate-same c = search needs
 
--- src/calls.rt:69:8
 same-requires : tie.Need-same-requires
 same-requires c κs = search needs
 
--- src/calls.rt:70:9
 returns : tie.Need-returns
 unfolding field
 returns c = rw (sym (c .before .same .ensures) ∙ c .if1 .taken)
 
--- src/calls.rt:72:11
 read-requires : tie.Need-read-requires
 read-requires c κs = search needs
 
--- src/calls.rt:73:23
 enum-known-n : tie.Need-enum-known-n
 enum-known-n c = search needs
 
--- src/calls.rt:74:30
 enum-told : tie.Need-enum-told
 enum-told c = search needs
 
--- src/calls.rt:66:1
 returns-2 : tie.Need-returns-2
 unfolding field numbered
-returns-2 c = rw (sym (c .before .before .before .before .before .same .ensures) ∙ c .before .before .before .before .if1 .left, sym (c .before .before .before .read .ensures) ∙ c .before .n .given .1)
+returns-2 c =
+    let told = c .before .before .before in
+    rw (sym (told .before .before .same .ensures) ∙ told .before .if1 .left, sym (told .read .ensures) ∙ c .before .n .given .1)
 
--- src/calls.rt:66:1
 returns-3 : tie.Need-returns-3
 unfolding field numbered
-returns-3 c = rw (sym (c .before .before .before .before .same .ensures) ∙ c .before .before .before .if1 .left, sym (c .before .before .read .ensures) ∙ c .enum-told .given .1)
+returns-3 c =
+    let told = c .before .before in
+    rw (sym (told .before .before .same .ensures) ∙ told .before .if1 .left, sym (told .read .ensures) ∙ c .enum-told .given .1)
 
 pub field-spec : {M : Type 1} → statement M
 field-spec =

@@ -1,76 +1,76 @@
 -- `script::calls::parse` meets its contract: each part is the field that the definition takes, and `spelt` says what they spell.
 -- Assumes nothing.
-use mathlib.Core.Path.{sym}
+use mathlib.Core.Path.{sym, _∙_}
+use denote.Ref.{now}
+use borrow.Author.Needs.{needs}
 use Rattle.script.specs.Line.{meant, spells}
+use Rattle.script.specs.Spaces.{Spaced}
 use Rattle.script.proofs.Laws.{no-call}
 use Rattle.script.proofs.Ends.{spaced, not-parted}
-use borrow.Author.Needs.{needs}
 use Rattle.script.proofs.calls.parse.Statement.{statement}
 use Rattle.script.proofs.calls.parse.Tie as tie
-use Rattle.script.proofs.calls.parse.Reads as reads
-use Rattle.script.proofs.calls.parse.Lts as lts
-use Rattle.script.proofs.calls.field.Reads as field-reads
-use Rattle.script.proofs.calls.spelt.Reads as spelt-reads
-use Rattle.script.proofs.calls.verb.Reads as verb-reads
-use Rattle.script.proofs.fields.cut.Reads as cut-reads
-use Rattle.script.proofs.fields.part.Reads as part-reads
 
--- src/calls.rt:21:27
 cut-requires : tie.Need-cut-requires
 cut-requires c κs = search needs
 
--- src/calls.rt:21:22
 enum-known-s : tie.Need-enum-known-s
 enum-known-s c = search needs
 
--- src/calls.rt:22:9
 enum-told : tie.Need-enum-told
 enum-told c = search needs
 
--- src/calls.rt:22:9
 returns : tie.Need-returns
 returns c = sym (no-call _ _ (not-parted _ (c .enum-told .given .1) (c .before .before .cut .ensures)))
 
--- src/calls.rt:24:21
-part-requires : tie.Need-part-requires
-part-requires c κs = spaced _ (c .before .s .given .1) (c .before .before .before .cut .ensures)
+-- the line's three spaces were found
+known : (k : tie.After-known-told) → Spaced (now (k .before .before .before .before .before .args .line)) (k .before .s .given .0 .0)
+known k = spaced _ (k .before .s .given .1) (k .before .before .before .cut .ensures)
 
--- src/calls.rt:24:9
+part-requires : tie.Need-part-requires
+part-requires c κs = known c
+
 verb-requires : tie.Need-verb-requires
 verb-requires c κs = search needs
 
--- src/calls.rt:25:22
 part-requires-2 : tie.Need-part-requires-2
-part-requires-2 c κs = spaced _ (c .before .before .before .s .given .1) (c .before .before .before .before .before .cut .ensures)
+part-requires-2 c κs = known (c .before .before)
 
--- src/calls.rt:25:9
 field-requires : tie.Need-field-requires
 field-requires c κs = search needs
 
--- src/calls.rt:26:22
 part-requires-3 : tie.Need-part-requires-3
-part-requires-3 c κs = spaced _ (c .before .before .before .before .before .s .given .1) (c .before .before .before .before .before .before .before .cut .ensures)
+part-requires-3 c κs = known (c .before .before .before .before)
 
--- src/calls.rt:26:9
 field-requires-2 : tie.Need-field-requires-2
 field-requires-2 c κs = search needs
 
--- src/calls.rt:27:23
 part-requires-4 : tie.Need-part-requires-4
-part-requires-4 c κs = spaced _ (c .before .before .before .before .before .before .before .s .given .1) (c .before .before .before .before .before .before .before .before .before .cut .ensures)
+part-requires-4 c κs = known (c .before .before .before .before .before .before)
 
--- src/calls.rt:27:9
 field-requires-3 : tie.Need-field-requires-3
 field-requires-3 c κs = search needs
 
--- src/calls.rt:28:5
 spelt-requires : tie.Need-spelt-requires
 spelt-requires c κs = search needs
 
--- src/calls.rt:18:1
 returns-2 : tie.Need-returns-2
 unfolding spells meant
-returns-2 c = cc
+returns-2 c =
+    let value = c .before in
+    let card = value .before .before in
+    let core = card .before .before in
+    let call = core .before .before in
+    c .spelt .ensures
+    ∙ rw (
+      call .verb .ensures,
+      call .before .part .ensures,
+      core .field .ensures,
+      core .before .part2 .ensures,
+      card .field2 .ensures,
+      card .before .part3 .ensures,
+      value .field3 .ensures,
+      value .before .part4 .ensures,
+    )
 
 pub parse-spec : {M : Type 1} → statement M
 parse-spec =

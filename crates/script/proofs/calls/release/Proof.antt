@@ -1,46 +1,44 @@
 -- `script::calls::release` meets its contract: the card and the value are numbers, the first at most 65,535, or the line spells nothing.
 -- Assumes nothing.
 use mathlib.Core.Path.{sym}
+use native.Mathlib.Omega.{arith}
 use borrow.Author.Tests.{le-leb, lt-leb}
+use borrow.Author.Needs.{needs}
 use Rattle.script.specs.Line.{number, spelt}
 use Rattle.script.proofs.Takes.{no-number}
-use borrow.Author.Needs.{needs}
 use Rattle.script.proofs.calls.release.Statement.{statement}
 use Rattle.script.proofs.calls.release.Tie as tie
-use Rattle.script.proofs.calls.release.Reads as reads
-use Rattle.script.proofs.calls.release.Lts as lts
 
--- src/calls.rt:143:23
 enum-known-card : tie.Need-enum-known-card
 enum-known-card c = search needs
 
--- src/calls.rt:144:9
 returns : tie.Need-returns
 unfolding spelt number
 returns c = sym (no-number (c .before .args .card) _ (c .match .keys2))
 
--- src/calls.rt:146:23
 enum-known-value : tie.Need-enum-known-value
 enum-known-value c = search needs
 
--- src/calls.rt:147:9
 returns-2 : tie.Need-returns-2
 unfolding spelt number
 returns-2 c = rw (c .before .before .card .given .1) (sym (no-number (c .before .before .before .before .args .value) _ (c .match2 .keys2)))
 
--- src/calls.rt:150:9
 returns-3 : tie.Need-returns-3
 unfolding spelt number
-returns-3 c = rw (c .before .before .before .before .before .card .given .1, c .before .before .value .given .1, lt-leb _ _ (c .if1 .taken))
+returns-3 c =
+    let value = c .before .before in
+    let card = value .before .before .before in
+    rw (card .card .given .1, value .value .given .1, lt-leb (card .card .given .0 .0) 65535 (omega arith))
 
--- src/calls.rt:152:35
 cast-t7 : tie.Need-cast-t7
 cast-t7 c = search needs
 
--- src/calls.rt:140:1
 returns-4 : tie.Need-returns-4
 unfolding spelt number
-returns-4 c = rw (c .before .before .before .before .before .card .given .1, c .before .before .value .given .1, le-leb _ _ (c .if1 .left))
+returns-4 c =
+    let value = c .before .before in
+    let card = value .before .before .before in
+    rw (card .card .given .1, value .value .given .1, le-leb (card .card .given .0 .0) 65535 (omega arith))
 
 pub release-spec : {M : Type 1} → statement M
 release-spec =

@@ -1,33 +1,26 @@
 -- `script::calls::write` meets its contract: the card and the value are numbers, or the line spells nothing.
 -- Assumes nothing.
 use mathlib.Core.Path.{sym}
+use borrow.Author.Needs.{needs}
 use Rattle.script.specs.Line.{number, spelt}
 use Rattle.script.proofs.Takes.{no-number}
-use borrow.Author.Needs.{needs}
 use Rattle.script.proofs.calls.write.Statement.{statement}
 use Rattle.script.proofs.calls.write.Tie as tie
-use Rattle.script.proofs.calls.write.Reads as reads
-use Rattle.script.proofs.calls.write.Lts as lts
 
--- src/calls.rt:131:23
 enum-known-card : tie.Need-enum-known-card
 enum-known-card c = search needs
 
--- src/calls.rt:132:9
 returns : tie.Need-returns
 unfolding spelt number
 returns c = sym (no-number (c .before .args .card) _ (c .match .keys2))
 
--- src/calls.rt:134:23
 enum-known-value : tie.Need-enum-known-value
 enum-known-value c = search needs
 
--- src/calls.rt:135:9
 returns-2 : tie.Need-returns-2
 unfolding spelt number
 returns-2 c = rw (c .before .before .card .given .1) (sym (no-number (c .before .before .before .before .args .value) _ (c .match2 .keys2)))
 
--- src/calls.rt:128:1
 returns-3 : tie.Need-returns-3
 unfolding spelt number
 returns-3 c = rw (c .before .before .before .before .card .given .1, c .before .value .given .1)

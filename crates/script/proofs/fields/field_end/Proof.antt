@@ -1,17 +1,15 @@
 -- `script::fields::field_end` meets its contract. The loop's invariant: the field ends where it does from `i` on. The measure is what is
 -- left of the line. Assumes nothing.
-use denote.Ref.{now}
-use Prim.Native.Nat.{ℕ, _-_}
-use mathlib.Core.List.{List}
 use mathlib.Core.Path.{_≡_, refl, sym, _∙_}
+use mathlib.Core.List.{List}
+use Prim.Native.Nat.{ℕ, _-_}
 use native.Mathlib.Omega.{arith}
 use lib.ListN.{length}
+use denote.Ref.{now}
 use Rattle.script.specs.Line.{fieldEnd}
 use Rattle.script.proofs.Ends.{ends-here, goes-on, line-ends}
 use Rattle.script.proofs.fields.field_end.Statement.{statement}
 use Rattle.script.proofs.fields.field_end.Tie as tie
-use Rattle.script.proofs.fields.field_end.Reads as reads
-use Rattle.script.proofs.fields.field_end.Lts as lts
 
 abbrev Inv-loop : tie.InvT-loop
 Inv-loop line from i₀ i = fieldEnd line i ≡ fieldEnd line from
@@ -19,11 +17,9 @@ Inv-loop line from i₀ i = fieldEnd line i ≡ fieldEnd line from
 abbrev μ-loop : tie.MeasureT-loop
 μ-loop line from i₀ i = length line - i
 
--- src/fields.rt:26:5
 loop-holds : tie.Need-loop-holds Inv-loop μ-loop
 loop-holds c = refl
 
--- src/fields.rt:27:12
 shared-slice-read-if1 : tie.Need-shared-slice-read-if1 Inv-loop μ-loop
 shared-slice-read-if1 c = omega arith
 
@@ -36,21 +32,17 @@ returns c =
     let turn = c .before .before in
     sym (ends-here (L turn) (turn .before .loop .i) (turn .loop-test .taken) (c .if1 .taken)) ∙ turn .before .loop .inv
 
--- src/fields.rt:30:9
 add-i : tie.Need-add-i Inv-loop μ-loop
 add-i c = omega arith
 
--- src/fields.rt:26:5
 loop-less : tie.Need-loop-less Inv-loop μ-loop
 loop-less c = omega arith
 
--- src/fields.rt:26:5
 loop-again : tie.Need-loop-again Inv-loop μ-loop
 loop-again c =
     let turn = c .before .before in
     sym (goes-on (L turn) (turn .before .loop .i) (turn .loop-test .taken) (c .if1 .left)) ∙ turn .before .loop .inv
 
--- src/fields.rt:22:1
 returns-2 : tie.Need-returns-2 Inv-loop μ-loop
 returns-2 c =
     let at = c .before in

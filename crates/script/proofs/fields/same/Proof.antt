@@ -1,17 +1,15 @@
 -- `script::fields::same` meets its contract. The loop's invariant: what is left of two slices of one length is the same where they are.
 -- The measure is what is left. Assumes nothing.
-use denote.Ref.{now}
-use Prim.Native.Nat.{ℕ, _≤_, _-_}
-use mathlib.Core.List.{List}
 use mathlib.Core.Path.{_≡_, refl, sym, _∙_}
+use mathlib.Core.List.{List}
+use Prim.Native.Nat.{ℕ, _≤_, _-_}
 use native.Mathlib.Omega.{arith}
 use lib.ListN.{length, drop}
+use denote.Ref.{now}
 use Rattle.script.specs.Pieces.{same}
 use Rattle.script.proofs.Same.{other-length, differ, agree, same-end}
 use Rattle.script.proofs.fields.same.Statement.{statement}
 use Rattle.script.proofs.fields.same.Tie as tie
-use Rattle.script.proofs.fields.same.Reads as reads
-use Rattle.script.proofs.fields.same.Lts as lts
 
 abbrev Inv-loop : tie.InvT-loop
 Inv-loop a b i₀ i = (length a ≡ length b) × (i ≤ length a) × (same (drop i a) (drop i b) ≡ same a b)
@@ -19,19 +17,15 @@ Inv-loop a b i₀ i = (length a ≡ length b) × (i ≤ length a) × (same (drop
 abbrev μ-loop : tie.MeasureT-loop
 μ-loop a b i₀ i = length a - i
 
--- src/fields.rt:76:9
 returns : tie.Need-returns Inv-loop μ-loop
 returns c = sym (other-length _ _ (c .if1 .taken))
 
--- src/fields.rt:79:5
 loop-holds : tie.Need-loop-holds Inv-loop μ-loop
 loop-holds c = (omega arith, omega arith, refl)
 
--- src/fields.rt:80:12
 shared-slice-read-if2 : tie.Need-shared-slice-read-if2 Inv-loop μ-loop
 shared-slice-read-if2 c = omega arith
 
--- src/fields.rt:80:20
 shared-slice-read-if2-2 : tie.Need-shared-slice-read-if2-2 Inv-loop μ-loop
 shared-slice-read-if2-2 c = omega arith
 
@@ -48,15 +42,12 @@ returns-2 c =
     let at = turn .before .loop in
     sym (differ (A turn) (B turn) (at .i) (turn .loop-test .taken) (omega arith) (c .if2 .taken)) ∙ at .inv .2
 
--- src/fields.rt:83:9
 add-i : tie.Need-add-i Inv-loop μ-loop
 add-i c = omega arith
 
--- src/fields.rt:79:5
 loop-less : tie.Need-loop-less Inv-loop μ-loop
 loop-less c = omega arith
 
--- src/fields.rt:79:5
 loop-again : tie.Need-loop-again Inv-loop μ-loop
 loop-again c =
     let turn = c .before .before .before in
@@ -66,7 +57,6 @@ loop-again c =
       sym (agree (A turn) (B turn) (at .i) (turn .loop-test .taken) (omega arith) (c .if2 .left)) ∙ at .inv .2,
     )
 
--- src/fields.rt:72:1
 returns-3 : tie.Need-returns-3 Inv-loop μ-loop
 returns-3 c =
     let at = c .before .loop in

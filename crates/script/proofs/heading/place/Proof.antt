@@ -1,22 +1,18 @@
 -- `script::heading::place` meets its contract. The loop's invariant: the name's place is as many fields after `i` as among the fields from
 -- `i` on. The measure is how many of the four are left. Assumes nothing.
+use mathlib.Core.Path.{_≡_, sym, ap, _∙_}
 use mathlib.Core.Bool.{true, false}
 use mathlib.Core.List.{List, []}
-use lib.ListN.{length, drop, getD}
-use Rattle.script.specs.Pieces.{same}
-use mathlib.Core.Path.{_≡_, sym, ap, _∙_}
 use Prim.Native.Nat.{ℕ, _+_, _-_, _≤_}
 use native.Mathlib.Omega.{arith}
-use borrow.Author.Needs.{needs}
+use lib.ListN.{length, drop, getD}
 use denote.Ref.{now}
+use borrow.Author.Needs.{needs}
+use Rattle.script.specs.Pieces.{same}
 use Rattle.script.specs.Line.{fields, place}
 use Rattle.script.proofs.Places.{found, passed, nowhere}
 use Rattle.script.proofs.heading.place.Statement.{statement}
 use Rattle.script.proofs.heading.place.Tie as tie
-use Rattle.script.proofs.heading.place.Reads as reads
-use Rattle.script.proofs.heading.place.Lts as lts
-use Rattle.script.proofs.fields.part.Reads as part-reads
-use Rattle.script.proofs.fields.same.Reads as same-reads
 
 abbrev Inv-loop : tie.InvT-loop
 Inv-loop line s name i₀ i = (i ≤ 4) × (i + place name (drop i (fields line)) ≡ place name (fields line))
@@ -24,15 +20,12 @@ Inv-loop line s name i₀ i = (i ≤ 4) × (i + place name (drop i (fields line)
 abbrev μ-loop : tie.MeasureT-loop
 μ-loop line s name i₀ i = 4 - i
 
--- src/heading.rt:36:5
 loop-holds : tie.Need-loop-holds Inv-loop μ-loop
 loop-holds c = (omega arith, omega arith)
 
--- src/heading.rt:37:17
 part-requires : tie.Need-part-requires Inv-loop μ-loop
 part-requires c κs = c .before .before .before .before .pre
 
--- src/heading.rt:37:12
 same-requires : tie.Need-same-requires Inv-loop μ-loop
 same-requires c κs = search needs
 
@@ -51,15 +44,12 @@ returns c =
     let test : same (getD (F turn) (at .i) []) (N turn) ≡ true = cc in
     sym (found (N turn) (F turn) (at .i) (omega (arith, ap length (start .pre .parts))) test) ∙ at .inv .1
 
--- src/heading.rt:40:9
 add-i : tie.Need-add-i Inv-loop μ-loop
 add-i c = omega arith
 
--- src/heading.rt:36:5
 loop-less : tie.Need-loop-less Inv-loop μ-loop
 loop-less c = omega arith
 
--- src/heading.rt:36:5
 loop-again : tie.Need-loop-again Inv-loop μ-loop
 loop-again c =
     let turn = c .before .before .before in
@@ -68,7 +58,6 @@ loop-again c =
     let test : same (getD (F turn) (at .i) []) (N turn) ≡ false = cc in
     (omega arith, sym (passed (N turn) (F turn) (at .i) (omega (arith, ap length (start .pre .parts))) test) ∙ at .inv .1)
 
--- src/heading.rt:31:1
 returns-2 : tie.Need-returns-2 Inv-loop μ-loop
 returns-2 c =
     let at = c .before in
