@@ -16,6 +16,10 @@ static const char case_a[] = "call core card value\nsetup 2 2 -\nrelease 0 7 100
 static const char listing_a[] = "line answer value\n2 ready -\n3 running -\n4 running -\n5 begun 0\n6 begun 1\n7 value 0\n"
                                 "8 written -\n9 written -\n10 waits -\n11 committed 0\n12 setback -\n13 value 30\n"
                                 "14 committed 1\n";
+// A line of every call on the largest machine, and a line that is none.
+static const char all_calls[] = "call core card value\nsetup 16 64 -\nrelease 15 65535 4294967295\nbegin 15 - -\nread 15 63 -\n"
+                                "write 15 63 4294967295\nread 15 63 -\ncommit 15 - -\nbegin 15 - -\ngiveup 15 - -\n"
+                                "finish 15 - -\nno call\n";
 static const char refused_names[] = "line answer value\n1 refused 11\n";
 
 static int checks, failures;
@@ -81,17 +85,22 @@ static void known(void) {
   static const char names[] = "core value card call\n";
   listed("case A", case_a, strlen(case_a), listing_a);
   listed("case A without its last newline", case_a, strlen(case_a) - 1, listing_a);
+  listed("every call", all_calls, strlen(all_calls),
+         "line answer value\n2 ready -\n3 running -\n4 begun 0\n5 value 0\n6 written -\n7 value 4294967295\n8 committed 0\n"
+         "9 begun 1\n10 ended -\n11 finished 65535\n12 refused 11\n");
   listed("empty script", "", 0, refused_names);
   listed("one newline", "\n", 1, refused_names);
   listed("names alone", names, strlen(names), "line answer value\n");
   listed("null bytes in lines", nulls, sizeof nulls - 1, "line answer value\n2 refused 11\n3 refused 11\n4 ready -\n");
 }
 
-// A script of the longest listing lines but for their line numbers, and a call of it that stays within the stack of the header.
+// Calls stay within the stack of the header.
 static void stack(void) {
-  size_t used = stack_used((const uint8_t *)case_a, strlen(case_a));
-  printf("stack: %zu bytes\n", used);
-  check(used <= CARDS_STACK_ENOUGH, "stack", "more than cards.h says");
+  size_t most = stack_used((const uint8_t *)case_a, strlen(case_a));
+  size_t used = stack_used((const uint8_t *)all_calls, strlen(all_calls));
+  if (most < used) most = used;
+  printf("stack: %zu bytes\n", most);
+  check(most <= CARDS_STACK_ENOUGH, "stack", "more than cards.h says");
 }
 
 int selftest(void) {

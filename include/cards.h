@@ -36,13 +36,15 @@ extern "C" {
  * line at most 25, as in "1000000 value 4294967295\n".
  *
  * Lines: one more than the newlines of the script is never too few; an empty script counts as one line. No line after line 1,000,001
- * is read, so 25,000,043 bytes are enough for every script. A listing is mostly far shorter: nearer to 12 bytes a line. */
+ * is read, so 25,000,043 bytes are enough for every script. Most listings are shorter: about 12 bytes a line, and 17 where line
+ * numbers have six digits. */
 #define CARDS_OUTPUT_ENOUGH(lines) ((size_t)18 + (size_t)25 * (size_t)(lines))
 
 /* The last line that gets an answer. */
 #define CARDS_LINES_MOST 1000001
 
-/* So many bytes of the caller's stack are always enough for a call, whatever the script: 64 KiB. */
+/* So many bytes of the caller's stack are enough for a call, 64 KiB. The need does not grow with the script. It is measured by the
+ * test of host/, not proved. */
 #define CARDS_STACK_ENOUGH 65536
 
 /* Runs the script and writes its listing to the output.
@@ -59,7 +61,7 @@ extern "C" {
  * A script cannot be wrong as a whole: a line that is not a call is answered "refused 11" in the listing, and the next one is read.
  *
  * Every call starts afresh, with no machine until the script's first setup. Nothing is left behind: no static variable, no heap. So
- * calls may be made from several tasks at once, and from an interrupt that has the stack for it.
+ * several tasks may call at the same time.
  *
  * The caller sees to it that
  *   - both pointers point to so many bytes; with a length of 0 the pointer is not read or written through, but must not be null;
