@@ -20,7 +20,8 @@
  *     5 written -
  *     6 committed 0
  *
- * The archive is build/libcards.a (make lib), for x86-64. It needs no heap, no threads and no operating system.
+ * The archive is build/libcards.a (make lib), for x86-64. It needs no heap, no threads and no operating system, and of the C library
+ * at most memcpy, memmove, memset and memcmp.
  */
 #ifndef CARDS_H
 #define CARDS_H

@@ -87,6 +87,14 @@ streams() {
   "$bin/cards-reference" < "$work/longer" | cmp - "$work/listing"
 }
 
+# the archive needs no more than cards.h says, and has no variable that could be kept between calls
+archive_is_plain() {
+  local needs
+  needs=$(nm -u build/libcards.a | sed -n 's/^ *U //p' | sort -u | grep -vxE 'memcpy|memmove|memset|memcmp')
+  [ -z "$needs" ] || { echo "build/libcards.a needs:" $needs; return 1; }
+  ! nm build/libcards.a | grep -E ' [BbCDd] '
+}
+
 check "examples by the reference" prints_examples by_reference
 check "the reference against itself" compares_alike
 check "a fault is found" finds_a_fault
@@ -94,7 +102,7 @@ check "claims on contended runs" claims_hold
 check "claims on case A" claims_hold_on_case_a
 
 check "examples by cards" prints_examples by_cards
-check "cards, scripts of any length" "$bin/compare" --seed 1 --count 300 "$cards"
+check "cards, scripts of any length" "$bin/compare" --limit 60 --seed 1 --count 300 "$cards"
 check "cards, quick scripts" "$bin/compare" --quick --seed 1 --count $scripts "$cards"
 check "cards, input in pieces" "$bin/compare" --pieces --seed 1 --count 100 "$cards"
 check "cards, a million lines" by_the_million by_cards
@@ -102,9 +110,10 @@ check "cards, constant memory" streams
 check "claims on a run of cards" claims_hold_on_cards
 
 check "C entry: the archive and its host" make --no-print-directory host
+check "C entry: an archive without needs or variables" archive_is_plain
 check "C entry: known calls" "$host" selftest
 check "examples by the C entry" prints_examples by_entry
-check "C entry, scripts of any length" "$bin/compare" --frames --seed 1 --count 300 "$host" frames
+check "C entry, scripts of any length" "$bin/compare" --frames --limit 60 --seed 1 --count 300 "$host" frames
 check "C entry, quick scripts" "$bin/compare" --frames --quick --seed 1 --count $scripts "$host" frames
 check "C entry, a million lines" by_the_million by_entry
 if [ -x "${host}_checked" ]; then

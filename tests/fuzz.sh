@@ -16,5 +16,5 @@ echo "seed $seed, count $count"
 "$compare" --quick --seed "$seed" --count "$count" target/bin/cards
 "$compare" --frames --quick --seed "$seed" --count "$count" build/cards_host frames
 "$compare" --pieces --seed "$seed" --count $((count / 100 + 1)) target/bin/cards
-"$compare" --seed "$seed" --count "$count" target/bin/cards
-"$compare" --frames --seed "$seed" --count "$count" build/cards_host frames
+"$compare" --limit 60 --seed "$seed" --count "$count" target/bin/cards
+"$compare" --frames --limit 60 --seed "$seed" --count "$count" build/cards_host frames
