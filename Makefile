@@ -1,6 +1,6 @@
 # Two commands: `make run` runs the main job, `make test` is the whole test.
 
-.PHONY: run test guards bench clean
+.PHONY: run test lib host fuzz guards bench clean
 
 # The script program `cards` is not built yet; until then this says so.
 run:
@@ -12,6 +12,21 @@ run:
 test:
 	@tests/run.sh
 
+# the C entry for firmware: build/libcards.a, declared in include/cards.h
+lib:
+	@tests/tool.sh rt
+	@mkdir -p build
+	@rt staticlib entry > build/lib.log 2>&1 || { tail -20 build/lib.log; exit 1; }
+	@cp target/staticlib/libentry.a build/libcards.a
+
+# the C program over it: build/cards_host
+host: lib
+	@host/build.sh
+
+# more of the comparisons: make fuzz SEED=7 COUNT=100000
+fuzz:
+	@tests/fuzz.sh $(SEED) $(COUNT)
+
 # the longer list of must-fail edits, outside the gate
 guards:
 	@tests/guards.sh
@@ -19,6 +34,7 @@ guards:
 # the tables of docs/BENCHMARKS.md
 bench:
 	@bench/calls.sh
+	@bench/script.sh
 
 clean:
 	rm -rf target build reference/target bench/reference/target

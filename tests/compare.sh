@@ -4,6 +4,9 @@ set -u
 cd "$(dirname "$0")/.."
 bin=reference/target/release
 cargo build --quiet --release --offline --manifest-path reference/Cargo.toml || { echo "0 passed, 1 failed"; exit 1; }
+cards=target/bin/cards
+host=build/cards_host
+scripts=20000
 work=$(mktemp -d)
 trap 'rm -rf "$work"' EXIT
 passed=0
@@ -16,9 +19,17 @@ check() {
   if "$@"; then passed=$((passed + 1)); else failed=$((failed + 1)); echo "failed: $name"; fi
 }
 
-listing_of_case_a() {
-  "$bin/cards-reference" < examples/case-a.script > "$work/case-a" && cmp "$work/case-a" examples/case-a.listing
+# prints_examples COMMAND..: the command, with a script as its standard input and as its last word, prints each example's listing
+prints_examples() {
+  local script
+  for script in examples/*.script; do
+    "$@" "$script" < "$script" > "$work/listing" && cmp "$work/listing" "${script%.script}.listing" || return 1
+  done
 }
+
+by_reference() { "$bin/cards-reference"; }
+by_cards() { "$cards"; }
+by_entry() { "$host" run "$1"; }
 
 # the comparison of two programs by seeded scripts finds nothing between the reference and itself,
 compares_alike() {
@@ -35,16 +46,80 @@ claims_hold() {
   "$bin/check-run" --seed 1 --count 1000
 }
 
-# and on case A as it is listed
+# and on case A and a longer script as they are listed
 claims_hold_on_case_a() {
   "$bin/check-run" examples/case-a.listing < examples/case-a.script
 }
 
-check "listing of case A" listing_of_case_a
+claims_hold_on_cards() {
+  "$bin/make-script" 10 16 64 20000 > "$work/script"
+  "$cards" < "$work/script" > "$work/listing" && "$bin/check-run" "$work/listing" < "$work/script"
+}
+
+# lines COUNT END: a script of so many lines, the last one ended by END
+lines() {
+  printf 'call core card value\nsetup 1 1 -\n'
+  yes 'begin 0 - -' | head -n "$(($1 - 3))"
+  printf 'commit 0 - -%s' "$2"
+}
+
+# by_the_million COMMAND..: scripts of a million lines and of one more, in the last of which is only one byte, and of many more
+by_the_million() {
+  local script=$work/script
+  lines 1000000 "" > "$work/line-1000000"
+  lines 1000000 $'\n' > "$work/line-1000000-ended"
+  lines 1000001 $'\n' > "$work/line-1000001"
+  { lines 1000000 $'\n'; printf x; } > "$work/line-1000001-short"
+  lines 1000500 $'\n' > "$work/line-1000500"
+  for script in "$work"/line-*; do
+    "$bin/cards-reference" < "$script" > "$work/expected"
+    "$@" "$script" < "$script" > "$work/listing" && cmp "$work/listing" "$work/expected" || return 1
+  done
+  rm -f "$work"/line-*
+}
+
+# cards keeps no more of its input than it needs: 16 MB of address space are enough for a script of more
+streams() {
+  "$bin/make-script" 10 16 64 1000000 > "$work/script"
+  [ "$(wc -c < "$work/script")" -gt 10000000 ] || return 1
+  { cat "$work/script"; head -c 8000000 /dev/zero; } > "$work/longer"
+  (ulimit -v 16384 && "$cards" < "$work/longer" > "$work/listing") || return 1
+  "$bin/cards-reference" < "$work/longer" | cmp - "$work/listing"
+}
+
+# the archive needs no more than cards.h says, and has no variable that could be kept between calls
+archive_is_plain() {
+  local needs
+  needs=$(nm -u build/libcards.a | sed -n 's/^ *U //p' | sort -u | grep -vxE 'memcpy|memmove|memset|memcmp')
+  [ -z "$needs" ] || { echo "build/libcards.a needs:" $needs; return 1; }
+  ! nm build/libcards.a | grep -E ' [BbCDd] '
+}
+
+check "examples by the reference" prints_examples by_reference
 check "the reference against itself" compares_alike
 check "a fault is found" finds_a_fault
 check "claims on contended runs" claims_hold
 check "claims on case A" claims_hold_on_case_a
+
+check "examples by cards" prints_examples by_cards
+check "cards, scripts of any length" "$bin/compare" --limit 60 --seed 1 --count 300 "$cards"
+check "cards, quick scripts" "$bin/compare" --quick --seed 1 --count $scripts "$cards"
+check "cards, input in pieces" "$bin/compare" --pieces --seed 1 --count 100 "$cards"
+check "cards, a million lines" by_the_million by_cards
+check "cards, constant memory" streams
+check "claims on a run of cards" claims_hold_on_cards
+
+check "C entry: the archive and its host" make --no-print-directory host
+check "C entry: an archive without needs or variables" archive_is_plain
+check "C entry: known calls" "$host" selftest
+check "examples by the C entry" prints_examples by_entry
+check "C entry, scripts of any length" "$bin/compare" --frames --limit 60 --seed 1 --count 300 "$host" frames
+check "C entry, quick scripts" "$bin/compare" --frames --quick --seed 1 --count $scripts "$host" frames
+check "C entry, a million lines" by_the_million by_entry
+if [ -x "${host}_checked" ]; then
+  check "C entry: known calls, with sanitizers" "${host}_checked" selftest
+  check "C entry, quick scripts, with sanitizers" "$bin/compare" --frames --quick --seed 30001 --count 2000 "${host}_checked" frames
+fi
 
 echo "$passed passed, $failed failed"
 [ "$failed" -eq 0 ]

@@ -62,12 +62,21 @@ pub struct Contention {
 }
 
 impl Contention {
-    /// Chooses the shape of the run by the seed.
+    /// Chooses the machine and the shape of the run by the seed.
     pub fn new(seed: u64) -> Contention {
         let mut random = Random::new(seed);
         let most_cores = *random.pick(&[2, 4, 4, 8, 16]);
         let cores = 1 + random.below(most_cores);
         let objects = *random.pick(&[1, 1, 2, 2, 3, 4, 8, 64]);
+        Contention::shaped(random, cores, objects)
+    }
+
+    /// Chooses the shape of the run by the seed, for this machine.
+    pub fn on(cores: u32, objects: u32, seed: u64) -> Contention {
+        Contention::shaped(Random::new(seed), cores, objects)
+    }
+
+    fn shaped(mut random: Random, cores: u32, objects: u32) -> Contention {
         let even = random.percent(30);
         Contention {
             cores,
@@ -93,9 +102,7 @@ impl Contention {
         let mut steps = Vec::with_capacity(calls);
         let mut tables = Vec::new();
         for number in 0..calls {
-            let call = self.opening(number).unwrap_or_else(|| self.next_call());
-            let answer = subject.call(call);
-            self.hear(call, answer);
+            let (call, answer) = self.step(subject, number);
             steps.push((call, answer));
             if let Answer::Committed(_) = answer {
                 tables.push(subject.committed().to_vec());
@@ -109,6 +116,14 @@ impl Contention {
             tables: Some(tables),
             last_table: Some(subject.committed().to_vec()),
         }
+    }
+
+    /// Makes the call of this number after the setup.
+    pub fn step(&mut self, subject: &mut impl Subject, number: usize) -> (Call, Answer) {
+        let call = self.opening(number).unwrap_or_else(|| self.next_call());
+        let answer = subject.call(call);
+        self.hear(call, answer);
+        (call, answer)
     }
 
     /// An even run lets every core release and begin, in order, first.

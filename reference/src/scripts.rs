@@ -1,5 +1,5 @@
 //! Scripts by seed, as bytes: contended, refused, malformed in every way that
-//! document 01 names, long, in every order of names.
+//! document 01 names, damaged in any way, long, in every order of names.
 
 use crate::call::Call;
 use crate::contended::Contention;
@@ -14,6 +14,12 @@ const NAMES: [&str; 4] = ["call", "core", "card", "value"];
 
 /// One script in so many has lines up to the last that is read, or one more.
 pub const LONGEST_ONE_IN: u32 = 2_000;
+
+/// Spoiled lines have at most so many bytes,
+const LONGEST_LINE: usize = 200_000;
+
+/// and fewer in most quick scripts.
+const QUICK_LINE: usize = 300;
 
 /// The 24 orders of the names, each as places in the order call, core, card,
 /// value.
@@ -57,9 +63,50 @@ pub fn script(seed: u64) -> Vec<u8> {
     }
     if random.percent(50) {
         let share = *random.pick(&[2, 10, 50]);
-        spoil::some_lines(&mut random, share, &mut lines);
+        spoil::some_lines(&mut random, share, LONGEST_LINE, &mut lines);
     }
     join(&mut random, &lines)
+}
+
+/// The script of this seed, quickly run: most have few lines, one in 300 has
+/// thousands, up to 20,000.
+pub fn quick_script(seed: u64) -> Vec<u8> {
+    let mut random = Random::new(seed);
+    let order = *random.pick(&orders());
+    let mut lines = vec![names_line(order)];
+    match random.below(40) {
+        0 => return few_bytes(&mut random),
+        1 => return spoil::garbage(&mut random, &lines[0]),
+        2 => lines[0] = spoil::bad_names(&mut random, &lines[0]),
+        _ => {}
+    }
+    let calls = quick_calls(&mut random);
+    lines.extend(calls.into_iter().map(|call| arrange(order, &print_call(call))));
+    if random.percent(50) {
+        let share = *random.pick(&[2, 10, 50]);
+        let longest = if lines.len() < 50 && random.percent(5) { LONGEST_LINE } else { QUICK_LINE };
+        spoil::some_lines(&mut random, share, longest, &mut lines);
+    }
+    let mut script = join(&mut random, &lines);
+    if random.percent(20) {
+        spoil::some_bytes(&mut random, &mut script);
+    }
+    script
+}
+
+/// The calls of a quick script. With names and setup the longest is 20,000
+/// lines.
+fn quick_calls(random: &mut Random) -> Vec<Call> {
+    match random.below(300) {
+        0 => {
+            let length = *random.pick(&[1_998, 4_998, 9_998, 19_998]);
+            contended_run(random.bits(), length)
+        }
+        1..=15 => contended(random, 1_000),
+        16..=40 => (0..random.below(40)).map(|_| any_call(random)).collect(),
+        41..=80 => [contended(random, 30), contended(random, 30)].concat(),
+        _ => contended(random, 90),
+    }
 }
 
 /// Calls that belong together: a contended run or calls with any numbers.
@@ -71,10 +118,15 @@ fn body(random: &mut Random) -> Vec<Call> {
     }
 }
 
-/// A setup and a contended run after it.
+/// A setup and a contended run after it, of fewer calls than this.
 fn contended(random: &mut Random, most: u32) -> Vec<Call> {
-    let mut contention = Contention::new(random.bits());
-    let length = random.below(most) as usize;
+    let seed = random.bits();
+    contended_run(seed, random.below(most) as usize)
+}
+
+/// A setup and a contended run of so many calls.
+fn contended_run(seed: u64, length: usize) -> Vec<Call> {
+    let mut contention = Contention::new(seed);
     let mut calls = vec![Call::Setup { cores: contention.cores, objects: contention.objects }];
     let run = contention.run(&mut Machine::blank(), length);
     calls.extend(run.steps.into_iter().map(|(call, _)| call));

@@ -1,17 +1,25 @@
 //! Cuts a failing script down: to few lines first, then to few bytes.
 
-/// Scripts with at most so many lines also have every pair of lines tried.
+/// Scripts with at most so many lines also have every pair of lines tried,
 const PAIRS_UP_TO: usize = 40;
+
+/// and with at most so many, the names line and 14 others, every choice of
+/// lines.
+const CHOICES_UP_TO: usize = 15;
 
 /// Scripts with at most so many bytes are also cut byte by byte.
 const BYTES_UP_TO: usize = 2_000;
 
 /// The shortest script found that still fails. No line of it can be taken
-/// away, nor two if it is short, and no byte if it is short. If the given
-/// script does not fail, it comes back as it is.
+/// away, nor two if it is short; if it has at most 15 lines, no fewer of them
+/// fail. No byte can be taken away if it is short. If the given script does
+/// not fail, it comes back as it is.
 pub fn shrink(script: &[u8], fails: &mut dyn FnMut(&[u8]) -> bool) -> Vec<u8> {
     if !fails(script) {
         return script.to_vec();
+    }
+    if fails(&[]) {
+        return Vec::new();
     }
     let mut shortest = script.to_vec();
     loop {
@@ -35,6 +43,9 @@ fn fewer_lines(script: &[u8], fails: &mut dyn FnMut(&[u8]) -> bool) -> Vec<u8> {
             Some(fewer) => kept = cut(&fewer, &mut fails),
             None => break,
         }
+    }
+    if kept.len() <= CHOICES_UP_TO {
+        kept = fewest(&kept, &mut fails);
     }
     kept.concat()
 }
@@ -86,4 +97,20 @@ fn without_a_pair<T: Copy>(parts: &[T], fails: &mut dyn FnMut(&[T]) -> bool) -> 
         }
     }
     None
+}
+
+/// The fewest of the parts that fail, in their order: every choice of them is
+/// tried, fewest first, but those that leave out one part or two: they have
+/// been tried before.
+fn fewest<T: Copy>(parts: &[T], fails: &mut dyn FnMut(&[T]) -> bool) -> Vec<T> {
+    for size in 0..parts.len().saturating_sub(2) {
+        for choice in (0..1_u32 << parts.len()).filter(|set| set.count_ones() as usize == size) {
+            let chosen = |place: &usize| choice >> place & 1 == 1;
+            let fewer: Vec<T> = (0..parts.len()).filter(chosen).map(|place| parts[place]).collect();
+            if fails(&fewer) {
+                return fewer;
+            }
+        }
+    }
+    parts.to_vec()
 }

@@ -9,7 +9,7 @@ use cards_reference::machine::Machine;
 use cards_reference::random::Random;
 use cards_reference::replay::first_difference;
 use cards_reference::script::{listed, listing_of, parse_names};
-use cards_reference::scripts::{names_line, orders, script, LONGEST_ONE_IN};
+use cards_reference::scripts::{names_line, orders, quick_script, script, LONGEST_ONE_IN};
 use std::collections::BTreeSet;
 
 #[test]
@@ -139,5 +139,54 @@ fn listings_of_scripts_break_no_claim() {
             assert_eq!(check(&shown.run).broken, [], "seed {seed}");
             assert_eq!(first_difference(&shown.run), None, "seed {seed}");
         }
+    }
+}
+
+fn lines_of(script: &[u8]) -> usize {
+    script.split_inclusive(|&byte| byte == b'\n').count()
+}
+
+/// What 20,000 quick scripts have between them.
+#[test]
+fn quick_scripts_have_every_length_order_and_byte() {
+    let mut lengths = BTreeSet::new();
+    let mut names = BTreeSet::new();
+    let mut bytes = [false; 256];
+    let mut total = 0;
+    for seed in 1..=20_000 {
+        let script = quick_script(seed);
+        lengths.insert(lines_of(&script));
+        names.insert(script.split(|&byte| byte == b'\n').next().map(<[u8]>::to_vec));
+        script.iter().for_each(|&byte| bytes[usize::from(byte)] = true);
+        total += lines_of(&script);
+    }
+    assert_eq!((lengths.first(), lengths.contains(&1)), (Some(&0), true));
+    assert!(lengths.contains(&20_000), "{:?}", lengths.last());
+    assert!(orders().into_iter().all(|order| names.contains(&Some(names_line(order)))));
+    assert!(bytes.iter().all(|&seen| seen));
+    assert!(total < 4_000_000, "{total} lines take long");
+}
+
+/// Contended runs at each number of cores: waits and setbacks are met.
+#[test]
+fn quick_scripts_contend_at_each_number_of_cores() {
+    let mut met = BTreeSet::new();
+    for seed in 1..=3_000 {
+        let script = quick_script(seed);
+        for shown in listed_runs(&script, &listing_of(&script)).expect("a good listing") {
+            for (_, answer) in &shown.run.steps {
+                match answer {
+                    Answer::SetBack | Answer::Waits { .. } => {
+                        met.insert((shown.run.cores, listed(*answer).0))
+                    }
+                    _ => met.insert((shown.run.cores, "")),
+                };
+            }
+        }
+    }
+    for cores in 1..=16 {
+        assert!(met.contains(&(cores, "")), "{cores} cores");
+        let contended = met.contains(&(cores, "setback")) && met.contains(&(cores, "waits"));
+        assert_eq!(contended, cores > 1, "{cores} cores");
     }
 }

@@ -1,10 +1,11 @@
-//! The three programs, run as a user runs them.
+//! The programs, run as a user runs them.
 
 use std::io::Write;
 use std::process::{Command, Output, Stdio};
 
 const REFERENCE: &str = env!("CARGO_BIN_EXE_cards-reference");
 const COMPARE: &str = env!("CARGO_BIN_EXE_compare");
+const MAKE_SCRIPT: &str = env!("CARGO_BIN_EXE_make-script");
 const CHECK_RUN: &str = env!("CARGO_BIN_EXE_check-run");
 const CASE_A: &[u8] = include_bytes!("data/case_a.script");
 const CASE_A_LISTING: &[u8] = include_bytes!("data/case_a.listing");
@@ -89,6 +90,63 @@ fn compare_tells_how_it_is_used() {
     assert_eq!(output(COMPARE, &["--seed", "x", "y"], b"").status.code(), Some(2));
     let missing = output(COMPARE, &["--count", "1", "no-such-program"], b"");
     assert_eq!(missing.status.code(), Some(2));
+}
+
+fn compare(arguments: &[&str]) -> (Option<i32>, String) {
+    let output = output(COMPARE, arguments, b"");
+    (output.status.code(), text(&output))
+}
+
+#[test]
+fn compare_ends_a_program_that_does_not() {
+    let (status, text) = compare(&["--limit", "1", "--quick", "sleep", "1000"]);
+    assert_eq!(status, Some(1));
+    assert!(text.contains("shortest script, 0 bytes"), "{text}");
+    assert!(text.ends_with("no listing of sleep: no end within 1 s\n"), "{text}");
+}
+
+#[test]
+fn compare_wants_a_good_end() {
+    let command = "\"$0\"; exit 3";
+    let (status, text) = compare(&["--count", "2", "sh", "-c", command, REFERENCE]);
+    assert_eq!(status, Some(1));
+    assert!(text.ends_with("no listing of sh: ended with exit status: 3\n"), "{text}");
+}
+
+#[test]
+fn compare_feeds_pieces() {
+    let (status, text) = compare(&["--pieces", "--count", "3", REFERENCE]);
+    assert_eq!((status, text.starts_with("compared 3 scripts (")), (Some(0), true), "{text}");
+    let (status, text) = compare(&["--pieces", "--count", "3", "cat"]);
+    assert_eq!(status, Some(1));
+    assert!(text.contains(" differs in pieces of 1 bytes; shortest script"), "{text}");
+}
+
+#[test]
+fn compare_speaks_frames() {
+    // An echo: the frame comes back as it was, and is no listing.
+    let (status, text) = compare(&["--frames", "--quick", "cat"]);
+    assert_eq!(status, Some(1));
+    assert!(text.contains("shortest script, 0 bytes"), "{text}");
+    assert!(text.ends_with("listing of cat:\n"), "{text}");
+    let (status, text) = compare(&["--frames", "sh", "-c", "echo broken >&2; exit 1"]);
+    assert_eq!(status, Some(1));
+    assert!(text.ends_with("ended with exit status: 1: broken\n"), "{text}");
+    let (status, text) = compare(&["--frames", "--limit", "1", "sleep", "1000"]);
+    assert_eq!(status, Some(1));
+    assert!(text.ends_with("no end within 1 s\n"), "{text}");
+    assert_eq!(compare(&["--frames", "--pieces", "cat"]).0, Some(2));
+}
+
+#[test]
+fn make_script_makes_so_many_lines() {
+    let script = output(MAKE_SCRIPT, &["10", "4", "64", "500"], b"");
+    assert!(script.status.success());
+    assert!(script.stdout.starts_with(b"call core card value\nsetup 4 64 -\nrelease "));
+    assert_eq!(text(&script).lines().count(), 500);
+    let listing = text(&output(REFERENCE, &[], &script.stdout));
+    assert!(listing.contains(" waits -\n") && listing.contains(" setback -\n"), "{listing}");
+    assert_eq!(output(MAKE_SCRIPT, &["1", "17", "64", "500"], b"").status.code(), Some(2));
 }
 
 fn check_listing(name: &str, listing: &str) -> Output {

@@ -62,3 +62,44 @@ fn the_result_still_fails_and_no_line_can_go() {
         assert!(!fails(&fewer));
     }
 }
+
+/// A failure that needs the four lines k, and of a, b and c all or none.
+fn all_or_none(script: &[u8]) -> bool {
+    let kept = script.iter().filter(|&&byte| byte == b'k').count() == 4;
+    let there = [b'a', b'b', b'c'].map(|byte| script.contains(&byte));
+    kept && there.iter().all(|&one| one == there[0])
+}
+
+const ALL_OR_NONE: &[u8] = b"k\na\nk\nb\nk\nc\nk\n";
+
+/// No stretch, no line and no pair of them can go.
+#[test]
+fn three_lines_that_only_go_together_are_cut() {
+    assert_eq!(shrink(ALL_OR_NONE, &mut all_or_none), b"kkkk");
+}
+
+/// With 16 lines not every choice is tried.
+#[test]
+fn above_the_limit_three_lines_may_stay() {
+    let script = [ALL_OR_NONE, &b"x\n".repeat(9)].concat();
+    let crosses =
+        |script: &[u8]| script.split(|&byte| byte == b'\n').filter(|&l| l == b"x").count();
+    let mut fails = |script: &[u8]| all_or_none(script) && crosses(script) == 9;
+    let shortest = shrink(&script, &mut fails);
+    assert!(fails(&shortest));
+    assert!(shortest.contains(&b'a'));
+}
+
+/// A script fails if its numbers sum up to 100, or to 60. No stretch, no line
+/// and no pair of them has a sum of 40, but four lines have.
+#[test]
+fn the_fewest_of_the_lines_left_are_found() {
+    let numbers = [30, 5, 30, 7, 9, 19];
+    let script: Vec<u8> = numbers.iter().flat_map(|n| format!("{n}\n").into_bytes()).collect();
+    let mut fails = |script: &[u8]| {
+        let text = String::from_utf8_lossy(script).into_owned();
+        let lines: Vec<u32> = text.lines().filter_map(|line| line.parse().ok()).collect();
+        lines.iter().all(|line| numbers.contains(line)) && [60, 100].contains(&lines.iter().sum())
+    };
+    assert_eq!(shrink(&script, &mut fails), b"30\n30");
+}

@@ -16,19 +16,65 @@ const NUMBERS: [&str; 9] = [
     "00",
 ];
 
-/// Spoils a share of the lines, in a hundred; the names line is kept.
-pub(super) fn some_lines(random: &mut Random, share: u32, lines: &mut [Vec<u8>]) {
+/// Lengths at the limit, past it and far past it.
+const LENGTHS: [usize; 10] = [63, 64, 65, 66, 128, 300, 4_096, 65_536, 65_537, 200_000];
+
+/// Spoils a share of the lines, in a hundred; the names line is kept. No line
+/// is drawn out to more than the longest.
+pub(super) fn some_lines(random: &mut Random, share: u32, longest: usize, lines: &mut [Vec<u8>]) {
     for line in lines.iter_mut().skip(1) {
         if random.percent(share) {
-            *line = spoiled(random, line);
+            *line = spoiled(random, longest, line);
         }
+    }
+}
+
+/// Spoils a script without regard to its lines: a few bytes changed, put in or
+/// taken away, or the end cut off.
+pub(super) fn some_bytes(random: &mut Random, script: &mut Vec<u8>) {
+    if random.percent(20) {
+        script.truncate(random.place(script.len() + 1));
+        return;
+    }
+    for _ in 0..1 + random.below(3) {
+        let place = random.place(script.len() + 1);
+        let byte = any_byte(random);
+        match random.below(4) {
+            0 if place < script.len() => drop(script.remove(place)),
+            1 if place < script.len() => script[place] ^= 1 << random.below(8),
+            2 if place < script.len() => script[place] = byte,
+            _ => script.insert(place, byte),
+        }
+    }
+}
+
+/// Bytes that mean nothing, or next to nothing; below a names line or not.
+pub(super) fn garbage(random: &mut Random, names: &[u8]) -> Vec<u8> {
+    let mut script = if random.percent(60) { [names, b"\n"].concat() } else { Vec::new() };
+    let near = random.percent(50);
+    for _ in 0..random.below(2_000) {
+        script.push(match near {
+            true => *random.pick(b"setup 016- -\n\n "),
+            false => any_byte(random),
+        });
+    }
+    script
+}
+
+/// Any byte, often a newline.
+fn any_byte(random: &mut Random) -> u8 {
+    let byte = random.below(256) as u8;
+    if random.percent(20) {
+        b'\n'
+    } else {
+        byte
     }
 }
 
 /// A names line that is wrong in one way.
 pub(super) fn bad_names(random: &mut Random, names: &[u8]) -> Vec<u8> {
     match random.below(4) {
-        0 => spoiled(random, names),
+        0 => spoiled(random, 300, names),
         1 => names.to_ascii_uppercase(),
         2 => [names, b" call"].concat(),
         _ => {
@@ -39,12 +85,12 @@ pub(super) fn bad_names(random: &mut Random, names: &[u8]) -> Vec<u8> {
 }
 
 /// The line, spoiled in one way.
-fn spoiled(random: &mut Random, line: &[u8]) -> Vec<u8> {
+fn spoiled(random: &mut Random, longest: usize, line: &[u8]) -> Vec<u8> {
     match random.below(8) {
         0 => with_byte(random, line),
         1 => spaced(random, line),
         2 | 3 => with_field(random, line),
-        4 => sized(random, line),
+        4 => sized(random, longest, line),
         5 => fields_changed(random, line),
         6 => line.to_ascii_uppercase(),
         _ => Vec::new(),
@@ -98,9 +144,10 @@ fn with_field(random: &mut Random, line: &[u8]) -> Vec<u8> {
     fields.join(" ").into_bytes()
 }
 
-/// The line drawn out to the limit, past it, or far past it.
-fn sized(random: &mut Random, line: &[u8]) -> Vec<u8> {
-    let length = *random.pick(&[63, 64, 65, 66, 128, 4_096, 65_536, 65_537, 200_000]);
+/// The line drawn out to one of the lengths.
+fn sized(random: &mut Random, longest: usize, line: &[u8]) -> Vec<u8> {
+    let lengths = LENGTHS.partition_point(|&length| length <= longest);
+    let length = *random.pick(&LENGTHS[..lengths]);
     let filler = *random.pick(b" 0-x\0\r");
     let mut line = line.to_vec();
     if random.percent(50) {

@@ -1,0 +1,115 @@
+#include "selftest.h"
+
+#include "cards.h"
+#include "lent.h"
+#include "stack.h"
+
+#include <stdint.h>
+#include <stdio.h>
+#include <stdlib.h>
+#include <string.h>
+
+// Case A of document 01, and its listing.
+static const char case_a[] = "call core card value\nsetup 2 2 -\nrelease 0 7 100\nrelease 1 8 90\nbegin 0 - -\nbegin 1 - -\n"
+                             "read 1 0 -\nwrite 0 0 30\nwrite 1 1 4\ncommit 1 - -\ncommit 0 - -\ncommit 1 - -\nread 1 0 -\n"
+                             "commit 1 - -\n";
+static const char listing_a[] = "line answer value\n2 ready -\n3 running -\n4 running -\n5 begun 0\n6 begun 1\n7 value 0\n"
+                                "8 written -\n9 written -\n10 waits -\n11 committed 0\n12 setback -\n13 value 30\n"
+                                "14 committed 1\n";
+// A line of every call on the largest machine, and a line that is none.
+static const char all_calls[] = "call core card value\nsetup 16 64 -\nrelease 15 65535 4294967295\nbegin 15 - -\nread 15 63 -\n"
+                                "write 15 63 4294967295\nread 15 63 -\ncommit 15 - -\nbegin 15 - -\ngiveup 15 - -\n"
+                                "finish 15 - -\nno call\n";
+static const char refused_names[] = "line answer value\n1 refused 11\n";
+
+static int checks, failures;
+
+static void check(int good, const char *name, const char *why) {
+  checks++;
+  if (good) return;
+  failures++;
+  printf("failed: %s: %s\n", name, why);
+}
+
+// The listing in every way of lending, if it is known.
+static void listed(const char *name, const void *script, size_t length, const char *expected) {
+  struct outcome outcome = run_all_ways(script, length);
+  check(!outcome.fault, name, outcome.fault ? outcome.fault : "");
+  if (outcome.fault || !expected) return;
+  int same = outcome.length == strlen(expected) && !memcmp(outcome.written, expected, outcome.length);
+  check(same, name, "other listing");
+}
+
+// Every output length from none to a few more than the listing has.
+static void every_length(void) {
+  size_t exact = strlen(listing_a);
+  for (size_t lent = 0; lent < exact + 20; lent++) {
+    struct outcome outcome = run_lent((const uint8_t *)case_a, strlen(case_a), lent);
+    size_t expected = lent < exact ? 0 : exact;
+    check(!outcome.fault, "case A, every length", outcome.fault ? outcome.fault : "");
+    check(outcome.length == expected, "case A, every length", "other length");
+  }
+}
+
+// The script cut off at every place: each is a script of its own.
+static void every_cut(void) {
+  for (size_t length = 0; length < strlen(case_a); length++) listed("case A, cut off", case_a, length, NULL);
+}
+
+// 64 KiB of garbage, as it is and below a names line.
+static void garbage(uint64_t seed) {
+  enum { SIZE = 1 << 16 };
+  static const char names[] = "call core card value\n";
+  uint8_t *bytes = malloc(SIZE);
+  if (!bytes) exit(2);
+  for (size_t at = 0; at < SIZE; at++) {
+    seed = seed * 6364136223846793005u + 1442695040888963407u;
+    bytes[at] = (uint8_t)(seed >> 56);
+  }
+  listed("garbage", bytes, SIZE, refused_names);
+  memcpy(bytes, names, strlen(names));
+  listed("garbage below names", bytes, SIZE, NULL);
+  memset(bytes, 0, SIZE);
+  listed("null bytes", bytes, SIZE, refused_names);
+  memcpy(bytes, names, strlen(names));
+  listed("null bytes below names", bytes, SIZE, "line answer value\n2 refused 11\n");
+  memset(bytes, '\n', SIZE);
+  memcpy(bytes, names, strlen(names));
+  listed("empty lines below names", bytes, SIZE, NULL);
+  free(bytes);
+}
+
+// Short scripts whose listings are plain.
+static void known(void) {
+  static const char nulls[] = "call core card value\nsetup 1 1 -\0\n\0\nsetup 1 1 -";
+  static const char names[] = "core value card call\n";
+  listed("case A", case_a, strlen(case_a), listing_a);
+  listed("case A without its last newline", case_a, strlen(case_a) - 1, listing_a);
+  listed("every call", all_calls, strlen(all_calls),
+         "line answer value\n2 ready -\n3 running -\n4 begun 0\n5 value 0\n6 written -\n7 value 4294967295\n8 committed 0\n"
+         "9 begun 1\n10 ended -\n11 finished 65535\n12 refused 11\n");
+  listed("empty script", "", 0, refused_names);
+  listed("one newline", "\n", 1, refused_names);
+  listed("names alone", names, strlen(names), "line answer value\n");
+  listed("null bytes in lines", nulls, sizeof nulls - 1, "line answer value\n2 refused 11\n3 refused 11\n4 ready -\n");
+}
+
+// Calls stay within the stack of the header.
+static void stack(void) {
+  size_t most = stack_used((const uint8_t *)case_a, strlen(case_a));
+  size_t used = stack_used((const uint8_t *)all_calls, strlen(all_calls));
+  if (most < used) most = used;
+  printf("stack: %zu bytes\n", most);
+  check(most <= CARDS_STACK_ENOUGH, "stack", "more than cards.h says");
+}
+
+int selftest(void) {
+  known();
+  every_length();
+  every_cut();
+  garbage(1);
+  garbage(2);
+  stack();
+  printf("host: %d checks, %d failures\n", checks, failures);
+  return failures;
+}

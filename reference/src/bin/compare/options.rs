@@ -1,0 +1,87 @@
+//! What the command line asks for.
+
+use crate::frames::Frames;
+use crate::once::Once;
+use crate::subject::Subject;
+use cards_reference::scripts::{quick_script, script};
+use std::time::Duration;
+
+pub const USAGE: &str = "usage: compare [--seed S] [--count N] [--limit SECONDS] [--quick] \
+[--pieces | --frames] PROGRAM [ARGS..]";
+
+pub struct Options {
+    pub seed: u64,
+    pub count: u64,
+    /// How long the program may take for one script.
+    pub limit: Duration,
+    /// Most scripts are short.
+    pub quick: bool,
+    /// Standard input comes in pieces; scripts are short.
+    pub pieces: bool,
+    /// The size of the pieces, if standard input comes in pieces.
+    pub piece: Option<usize>,
+    /// One process takes all scripts, in frames.
+    pub frames: bool,
+    pub program: Vec<String>,
+}
+
+impl Options {
+    fn standard() -> Options {
+        Options {
+            seed: 1,
+            count: 1_000,
+            limit: Duration::from_secs(10),
+            quick: false,
+            pieces: false,
+            piece: None,
+            frames: false,
+            program: Vec::new(),
+        }
+    }
+
+    /// The script of this seed.
+    pub fn script(&self, seed: u64) -> Vec<u8> {
+        if self.quick || self.pieces {
+            quick_script(seed)
+        } else {
+            script(seed)
+        }
+    }
+
+    /// The program, ready for scripts.
+    pub fn subject(&self) -> Box<dyn Subject> {
+        self.within(self.limit)
+    }
+
+    /// The program, ready for scripts, with this limit.
+    pub fn within(&self, limit: Duration) -> Box<dyn Subject> {
+        let program = self.program.clone();
+        if self.frames {
+            Box::new(Frames::new(program, limit))
+        } else {
+            Box::new(Once { program, limit, piece: self.piece })
+        }
+    }
+}
+
+/// The options, or none if the command line is not understood.
+pub fn options(mut arguments: impl Iterator<Item = String>) -> Option<Options> {
+    let mut options = Options::standard();
+    while let Some(argument) = arguments.next() {
+        match argument.as_str() {
+            "--seed" => options.seed = arguments.next()?.parse().ok()?,
+            "--count" => options.count = arguments.next()?.parse().ok()?,
+            "--limit" => options.limit = Duration::from_secs(arguments.next()?.parse().ok()?),
+            "--quick" => options.quick = true,
+            "--pieces" => options.pieces = true,
+            "--frames" => options.frames = true,
+            unknown if unknown.starts_with("--") => return None,
+            _ => {
+                options.program = vec![argument];
+                options.program.extend(arguments);
+                return (!options.pieces || !options.frames).then_some(options);
+            }
+        }
+    }
+    None
+}
