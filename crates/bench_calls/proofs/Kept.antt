@@ -5,7 +5,7 @@ use Prim.Native.Nat.{ℕ}
 use lib.ListN.{length}
 use Rattle.machine.specs.declared.Machine.{Machine}
 use Rattle.machine.specs.Rule.{lent}
-use Rattle.machine.proofs.Sound.Keeps.{Good}
+use Rattle.machine.specs.Inside.{Good}
 
 pub same-lengths : (m : Machine) (cs ps cs′ ps′ : List ℕ) → Good (lent m cs ps) → length cs′ ≡ length cs → length ps′ ≡ length ps
     → Good (lent m cs′ ps′)

@@ -8,7 +8,7 @@ use machine::inside::commit;
 use machine::inside::jobs;
 use machine::inside::transaction;
 ghost use Rattle.machine.specs.Rule.{lent};
-ghost use Rattle.machine.proofs.Sound.Keeps.{Good};
+ghost use Rattle.machine.specs.Inside.{Good};
 
 // The calls of a list, beside SAVE, which keeps the record, and RESTORE, which goes back to the one kept.
 const SAVE: u32 = 0;

@@ -8,11 +8,11 @@ use Rattle.machine.specs.declared.Machine.{Machine}
 use Rattle.machine.specs.declared.Outcome.{Outcome}
 use Rattle.machine.specs.declared.Answer.the-variants.{Ready, Waits}
 use Rattle.machine.specs.Answers.{named}
-use Rattle.machine.specs.Inside.{Fine}
+use Rattle.machine.specs.Inside.{Fine, Good}
 use Rattle.machine.specs.Rule.{World, Result, lent, left, setup, release, begin, read, write, commit, giveUp, finish, contender}
 use Rattle.machine.proofs.Case.{case-of}
 use Rattle.machine.proofs.Binds.{release-follows, begin-follows, read-follows, write-follows, commit-follows, give-up-follows, finish-follows}
-use Rattle.machine.proofs.Sound.Keeps.{Good, keeps-good, setup-good}
+use Rattle.machine.proofs.Sound.Keeps.{keeps-good, setup-good}
 
 -- what the inside functions that are lent the tables ask
 pub fine : {w : World} → Good w → Fine w

@@ -11,6 +11,7 @@ mod CommitLaws
 mod TestLaws
 mod SoundLaws
 pub mod Refusals
+mod Told
 pub mod Case
 pub mod CanFollow
 pub mod Binds

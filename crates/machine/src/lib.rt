@@ -18,7 +18,9 @@ ghost use Rattle.machine.specs.Rule.{lent, left};
 ghost use Rattle.machine.specs.Record.{blank};
 ghost use Rattle.machine.specs.declared.Answer.the-variants.{Ready, Refused, Waits};
 ghost use Rattle.machine.specs.Claims.{EveryRun};
-ghost use Rattle.machine.specs.Answers.{named, given};
+ghost use Rattle.machine.specs.Answers.{number, values, named};
+ghost use Rattle.machine.specs.Refusals.{Smallest, refusals, setupRefusals};
+ghost use mathlib.Core.List.{[]};
 
 pub mod inside;
 mod setup;
@@ -148,7 +150,7 @@ impl Machine {
     pub fn setup(cores: u32, cards: u32, committed: &mut [u32], pending: &mut [u32]) -> Outcome
         ensures rule { λ r. ⌜ left r (now (committed .exit)) (now (pending .exit)) ≡ Rule.setup cores cards (now (committed .entry)) (now (pending .entry)) ⌝ }
         ensures runs { λ r. ⌜ (r .answer ≡ Ready → EveryRun (lent (r .machine) (now (committed .exit)) (now (pending .exit)))) ⌝ }
-        ensures paper { λ r. ⌜ given (r .answer) ≡ given (Rule.setup cores cards (now (committed .entry)) (now (pending .entry)) .answer) ⌝ }
+        ensures paper { λ r. ⌜ Smallest (number (r .answer)) (setupRefusals cores cards (now (committed .entry)) (now (pending .entry))) × (values (r .answer) ≡ values (Rule.setup cores cards (now (committed .entry)) (now (pending .entry)) .answer)) ⌝ }
     {
         if in_range(cores, cards) {
             let n = cores as u8;
@@ -172,7 +174,7 @@ impl Machine {
     // 6 the core has 8 jobs. Refused, the record comes back as given.
     pub fn release(self, core: u32, job: u16, deadline: u32) -> Outcome
         ensures rule { λ r. ⌜ r ≡ Rule.release self core job deadline ⌝ }
-        ensures paper { λ r. ⌜ given (r .answer) ≡ given (Rule.release self core job deadline .answer) ⌝ }
+        ensures paper { λ r. ⌜ Smallest (number (r .answer)) (refusals (lent self [] []) (Rule.Release core job deadline)) × (values (r .answer) ≡ values (Rule.release self core job deadline .answer)) ⌝ }
     {
         if is_sound(self) {
             jobs::release(self, core, job, deadline)
@@ -188,7 +190,7 @@ impl Machine {
     // is in progress, 10 every ticket is given. Refused, the record comes back as given.
     pub fn begin(self, core: u32) -> Outcome
         ensures rule { λ r. ⌜ r ≡ Rule.begin self core ⌝ }
-        ensures paper { λ r. ⌜ given (r .answer) ≡ given (Rule.begin self core .answer) ⌝ }
+        ensures paper { λ r. ⌜ Smallest (number (r .answer)) (refusals (lent self [] []) (Rule.Begin core)) × (values (r .answer) ≡ values (Rule.begin self core .answer)) ⌝ }
     {
         if is_sound(self) {
             transaction::begin(self, core)
@@ -205,7 +207,7 @@ impl Machine {
     // such card, 9 none in progress. Both tables keep every word; refused, the record comes back as given.
     pub fn read(self, core: u32, card: u32, committed: &mut [u32], pending: &mut [u32]) -> Outcome
         ensures rule { λ r. ⌜ left r (now (committed .exit)) (now (pending .exit)) ≡ Rule.read (lent self (now (committed .entry)) (now (pending .entry))) core card ⌝ }
-        ensures paper { λ r. ⌜ given (r .answer) ≡ given (Rule.read (lent self (now (committed .entry)) (now (pending .entry))) core card .answer) ⌝ }
+        ensures paper { λ r. ⌜ Smallest (number (r .answer)) (refusals (lent self (now (committed .entry)) (now (pending .entry))) (Rule.Read core card)) × (values (r .answer) ≡ values (Rule.read (lent self (now (committed .entry)) (now (pending .entry))) core card .answer)) ⌝ }
     {
         if is_sound(self) {
             if tables_fit(self.cores, self.objects, committed.len(), pending.len()) {
@@ -236,7 +238,7 @@ impl Machine {
         pending: &mut [u32],
     ) -> Outcome
         ensures rule { λ r. ⌜ left r (now (committed .exit)) (now (pending .exit)) ≡ Rule.write (lent self (now (committed .entry)) (now (pending .entry))) core card value ⌝ }
-        ensures paper { λ r. ⌜ given (r .answer) ≡ given (Rule.write (lent self (now (committed .entry)) (now (pending .entry))) core card value .answer) ⌝ }
+        ensures paper { λ r. ⌜ Smallest (number (r .answer)) (refusals (lent self (now (committed .entry)) (now (pending .entry))) (Rule.Write core card value)) × (values (r .answer) ≡ values (Rule.write (lent self (now (committed .entry)) (now (pending .entry))) core card value .answer)) ⌝ }
     {
         if is_sound(self) {
             if tables_fit(self.cores, self.objects, committed.len(), pending.len()) {
@@ -261,7 +263,7 @@ impl Machine {
     pub fn commit(self, core: u32, committed: &mut [u32], pending: &mut [u32]) -> Outcome
         ensures rule { λ r. ⌜ left r (now (committed .exit)) (now (pending .exit)) ≡ Rule.commit (named (r .answer)) (lent self (now (committed .entry)) (now (pending .entry))) core ⌝ }
         ensures waits { λ r. ⌜ ((e : ℕ) → r .answer ≡ Waits e → Rule.contender self core e ≡ true) ⌝ }
-        ensures paper { λ r. ⌜ given (r .answer) ≡ given (Rule.commit (named (r .answer)) (lent self (now (committed .entry)) (now (pending .entry))) core .answer) ⌝ }
+        ensures paper { λ r. ⌜ Smallest (number (r .answer)) (refusals (lent self (now (committed .entry)) (now (pending .entry))) (Rule.Commit core)) × (values (r .answer) ≡ values (Rule.commit (named (r .answer)) (lent self (now (committed .entry)) (now (pending .entry))) core .answer)) ⌝ }
     {
         if is_sound(self) {
             if tables_fit(self.cores, self.objects, committed.len(), pending.len()) {
@@ -284,7 +286,7 @@ impl Machine {
     // given.
     pub fn give_up(self, core: u32) -> Outcome
         ensures rule { λ r. ⌜ r ≡ Rule.giveUp self core ⌝ }
-        ensures paper { λ r. ⌜ given (r .answer) ≡ given (Rule.giveUp self core .answer) ⌝ }
+        ensures paper { λ r. ⌜ Smallest (number (r .answer)) (refusals (lent self [] []) (Rule.GiveUp core)) × (values (r .answer) ≡ values (Rule.giveUp self core .answer)) ⌝ }
     {
         if is_sound(self) {
             transaction::give_up(self, core)
@@ -300,7 +302,7 @@ impl Machine {
     // the core has no job, 8 a transaction is in progress. Refused, the record comes back as given.
     pub fn finish(self, core: u32) -> Outcome
         ensures rule { λ r. ⌜ r ≡ Rule.finish self core ⌝ }
-        ensures paper { λ r. ⌜ given (r .answer) ≡ given (Rule.finish self core .answer) ⌝ }
+        ensures paper { λ r. ⌜ Smallest (number (r .answer)) (refusals (lent self [] []) (Rule.Finish core)) × (values (r .answer) ≡ values (Rule.finish self core .answer)) ⌝ }
     {
         if is_sound(self) {
             jobs::finish(self, core)

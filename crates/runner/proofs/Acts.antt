@@ -15,7 +15,8 @@ use Rattle.machine.specs.declared.Machine.{Machine}
 use Rattle.machine.specs.declared.Outcome.{Outcome}
 use Rattle.machine.specs.declared.Answer.{Answer}
 use Rattle.machine.proofs.Case.{case-of}
-use Rattle.machine.proofs.Sound.Keeps.{Good, keeps-good}
+use Rattle.machine.specs.Inside.{Good}
+use Rattle.machine.proofs.Sound.Keeps.{keeps-good}
 use Rattle.listing.specs.Text.{said, word, value}
 use Rattle.runner.specs.Kept.{held, Held}
 

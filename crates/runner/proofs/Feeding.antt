@@ -11,8 +11,8 @@ use borrow.Author.Tests.{ne-eqb}
 use Rattle.machine.specs.declared.Machine.{Machine}
 use Rattle.machine.specs.Record.{blank}
 use Rattle.script.specs.declared.Columns.{Columns}
-use Rattle.script.specs.Pieces.{lines}
-use Rattle.script.proofs.Laws.{free, lines-newline}
+use Rattle.script.specs.Pieces.{lines, free}
+use Rattle.script.proofs.Laws.{lines-newline}
 use Rattle.runner.specs.declared.Reading.{Reading}
 use Rattle.runner.specs.declared.lines.Ended.{Ended}
 use Rattle.runner.specs.Listing.{mostLines}

@@ -16,9 +16,9 @@ use Rattle.script.specs.declared.Names.the-variants as Names
 use Rattle.script.specs.declared.Line.{Line}
 use Rattle.script.specs.declared.Line.the-variants as Line
 use Rattle.script.specs.declared.Call.{Call}
-use Rattle.script.specs.Pieces.{lines, pieces, onto, ended}
+use Rattle.script.specs.Pieces.{lines, pieces, onto, ended, free}
 use Rattle.script.specs.Line.{names, spells, fields, ordered, place}
-use Rattle.script.proofs.Laws.{free, too-long, names-too-long, lines-begun, lines-newline, lines-last, lines-empty, some-piece, first, others, rest-of-line, later-lines}
+use Rattle.script.proofs.Laws.{too-long, names-too-long, lines-begun, lines-newline, lines-last, lines-empty, some-piece, first, others, rest-of-line, later-lines}
 use Rattle.decimal.specs.Spelling.{spelling}
 use Rattle.listing.specs.Text.{line, said}
 use Rattle.runner.specs.Listing.{nothing, called, answered, mostLines, listed, named, body}

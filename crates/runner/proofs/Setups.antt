@@ -14,7 +14,7 @@ use Rattle.machine.specs.Record.{blank, machineOf}
 use Rattle.machine.specs.Rule.{World, Result, lent, left, setup, first, unlessLent, misfit}
 use Rattle.machine.specs.declared.Outcome.{Outcome}
 use Rattle.machine.specs.declared.Answer.the-variants.{Ready, Refused}
-use Rattle.machine.proofs.Sound.Keeps.{Good}
+use Rattle.machine.specs.Inside.{Good}
 use Rattle.machine.proofs.InsideLaws.{setup-left}
 use Rattle.runner.specs.Kept.{held, Held}
 use Rattle.runner.specs.Listing.{inRange, setUp}

@@ -7,7 +7,8 @@ use lib.ListN.{length}
 use native.Mathlib.Omega.{arith}
 use Rattle.machine.specs.Record.{blank}
 use Rattle.machine.specs.declared.Machine.{Machine}
-use Rattle.machine.proofs.Sound.Keeps.{Good, whole}
+use Rattle.machine.specs.Inside.{Good}
+use Rattle.machine.proofs.Sound.Keeps.{whole}
 use Rattle.runner.specs.Kept.{held, Held}
 use Rattle.runner.proofs.Setups.{few-words}
 

@@ -9,10 +9,9 @@ use lib.ListN.{length, take}
 use Rattle.machine.specs.Record.{blank}
 use Rattle.machine.specs.Rule.{World, lent}
 use Rattle.machine.specs.declared.Machine.{Machine}
-use Rattle.machine.proofs.Sound.Keeps.{Good}
+use Rattle.machine.specs.Inside.{Good}
 use Rattle.script.specs.declared.Columns.{Columns}
-use Rattle.script.specs.Pieces.{lines}
-use Rattle.script.proofs.Laws.{free}
+use Rattle.script.specs.Pieces.{lines, free}
 use Rattle.runner.specs.declared.Reading.{Reading}
 use Rattle.runner.specs.Listing.{body, listed, mostLines}
 

@@ -11,7 +11,7 @@ ghost use mathlib.Core.Path.{_≡_};
 ghost use mathlib.Core.Bool.{true};
 ghost use lib.ListN.{length};
 ghost use Rattle.machine.specs.Record.{blank};
-ghost use Rattle.machine.proofs.Sound.Keeps.{Good};
+ghost use Rattle.machine.specs.Inside.{Good};
 ghost use Rattle.listing.specs.Text.{said};
 ghost use Rattle.runner.specs.Kept.{held, Held};
 ghost use Rattle.runner.specs.Listing.{called, setUp};

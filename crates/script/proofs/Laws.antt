@@ -11,7 +11,7 @@ use borrow.Author.Tests.{lt-leb, eq-eqb, not-true}
 use Rattle.script.specs.declared.Line.the-variants.{Malformed}
 use Rattle.script.specs.declared.Columns.{Columns}
 use Rattle.script.specs.declared.Names.the-variants as Names
-use Rattle.script.specs.Pieces.{onto, pieces, ended, lines, same}
+use Rattle.script.specs.Pieces.{onto, pieces, ended, lines, same, free}
 use Rattle.script.specs.Line.{longest, fields, place, ordered, names, verb, meant, spelt, spells}
 
 -- ---- a line of more than 64 bytes, and any other that has no four fields
@@ -61,11 +61,6 @@ pub some-piece : (at : ℕ) (bs : List ℕ) → pieces at bs ≡ first (pieces a
 unfolding pieces first others
 some-piece at [] = refl
 some-piece at (b ∷ bs) = some-cut (eqb b at) b (pieces at bs)
-
--- whether a byte stands nowhere in a list
-unfoldable pub free : ℕ → List ℕ → Bool
-free at [] = true
-free at (b ∷ bs) = not (eqb b at) && free at bs
 
 -- bytes that are not cut stand in front of the first piece
 pub pieces-begun : (at : ℕ) (p rest : List ℕ) → free at p ≡ true → pieces at (p ++ rest) ≡ (p ++ first (pieces at rest)) ∷ others (pieces at rest)

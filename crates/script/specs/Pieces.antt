@@ -1,6 +1,6 @@
 -- A list of bytes cut at a byte, and the lines of a script. Assumes nothing.
 use Prim.Native.Nat.{ℕ}
-use mathlib.Core.Bool.{Bool, true, false, cond, _&&_}
+use mathlib.Core.Bool.{Bool, true, false, cond, not, _&&_}
 use mathlib.Core.List.{List, [], _∷_}
 use lib.Dec.{eqb}
 
@@ -31,3 +31,8 @@ same [] [] = true
 same [] (y ∷ ys) = false
 same (x ∷ xs) [] = false
 same (x ∷ xs) (y ∷ ys) = eqb x y && same xs ys
+
+-- whether a byte is nowhere in a list
+unfoldable pub free : ℕ → List ℕ → Bool
+free at [] = true
+free at (b ∷ bs) = not (eqb b at) && free at bs

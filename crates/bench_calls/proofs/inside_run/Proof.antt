@@ -6,7 +6,7 @@ use native.Mathlib.Omega.{arith}
 use lib.ListN.{length}
 use borrow.Author.Needs.{needs}
 use Rattle.machine.specs.Rule.{lent}
-use Rattle.machine.proofs.Sound.Keeps.{Good}
+use Rattle.machine.specs.Inside.{Good}
 use Rattle.bench_calls.proofs.Kept.{same-lengths}
 use Rattle.bench_calls.proofs.inside_run.Statement.{statement}
 use Rattle.bench_calls.proofs.inside_run.Tie as tie

@@ -15,7 +15,8 @@ use Rattle.machine.specs.declared.Core.{Core}
 use Rattle.machine.specs.Record.{noCore, coreAt, dataSet}
 use Rattle.machine.specs.Rule.{contender, blocked, struck, over, cleared, changed, through}
 use Rattle.machine.proofs.Sound.Turns.{Turns, turns-left}
-use Rattle.machine.proofs.Sound.Standing.{Tidy, Standing, Formed-core, Formed}
+use Rattle.machine.specs.Inside.{Formed-core, Formed}
+use Rattle.machine.proofs.Sound.Standing.{Tidy, Standing}
 use Rattle.machine.proofs.Sound.Cores.{idle-formed, over-tidy, struck-active, struck-ticket, struck-count, struck-aborts, struck-tidy, struck-formed}
 use Rattle.machine.proofs.Entries.{cleared-at, cleared-long, changed-at, changed-long}
 use Rattle.machine.proofs.Sound.OneCore.{Whole}

@@ -15,7 +15,8 @@ use Rattle.machine.specs.declared.Core.{Core}
 use Rattle.machine.specs.declared.Job.{Job}
 use Rattle.machine.specs.Record.{noJob, jobAt, idle, dataSet, running}
 use Rattle.machine.specs.Rule.{withList, withJob, withSets, aborted, struck, over, without}
-use Rattle.machine.proofs.Sound.Standing.{Clear, Tidy, Formed-core}
+use Rattle.machine.specs.Inside.{Formed-core}
+use Rattle.machine.proofs.Sound.Standing.{Clear, Tidy}
 use Rattle.machine.proofs.Sound.Jobs.{least-listed, least-first, without-long, without-unused}
 
 -- the core of a begun transaction with ticket t

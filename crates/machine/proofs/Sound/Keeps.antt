@@ -21,19 +21,13 @@ use Rattle.machine.specs.Answers.{kind}
 use Rattle.machine.specs.Rule.{World, slot, withJob, withSets, without, released, begun, told, valued, written, through, ended, finished, setup, Call, Result, first, unlessLent, misfit}
 use Rattle.machine.proofs.Case.{Case, is-refused, is-released, is-begun, is-told, is-valued, is-written, is-waiting, is-through, is-ended, is-finished}
 use Rattle.machine.proofs.Tally.{tally-within}
-use Rattle.machine.proofs.Sound.Standing.{Tidy, Formed-core, Formed, standing, is-sound}
+use Rattle.machine.specs.Inside.{Formed-core, Formed, Good}
+use Rattle.machine.proofs.Sound.Standing.{Tidy, standing, is-sound}
 use Rattle.machine.proofs.Sound.Jobs.{running-least, least-listed}
 use Rattle.machine.proofs.Sound.Cores.{unmarked, idle-list, idle-tidy, idle-formed, released-tidy, released-formed, told-tidy, told-formed, sets-tidy, sets-formed, finished-tidy, finished-formed, added-within}
 use Rattle.machine.proofs.Entries.{changed-long}
 use Rattle.machine.proofs.Sound.OneCore.{Whole, inside, put-whole, begun-whole, ended-whole}
 use Rattle.machine.proofs.Sound.Commit.{through-whole}
-
--- a sound record of the right shape, and tables of the right lengths
-pub record Good (w : World) : Type 0 where
-  pub formed : Formed (w .machine)
-  pub is-sound : sound (w .machine) ≡ true
-  pub committed-long : length (w .committed) ≡ w .machine .objects
-  pub pending-long : length (w .pending) ≡ w .machine .cores * w .machine .objects
 
 pub whole : {w : World} → Good w → Whole (w .machine)
 whole g = record { formed = g .formed; rules = standing (g .is-sound) }

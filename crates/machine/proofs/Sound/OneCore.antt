@@ -11,7 +11,8 @@ use Rattle.machine.specs.declared.Core.{Core}
 use Rattle.machine.specs.Record.{noCore, coreAt, putCore}
 use Rattle.machine.specs.Rule.{begun, over, ended}
 use Rattle.machine.proofs.Sound.Turns.{Turns, turns-same, turns-joined, turns-left}
-use Rattle.machine.proofs.Sound.Standing.{Tidy, Standing, Formed-core, Formed}
+use Rattle.machine.specs.Inside.{Formed-core, Formed}
+use Rattle.machine.proofs.Sound.Standing.{Tidy, Standing}
 use Rattle.machine.proofs.Sound.Cores.{withTransaction, idle-formed, begun-tidy, begun-formed, over-tidy}
 use Rattle.machine.proofs.Entries.{put-each}
 

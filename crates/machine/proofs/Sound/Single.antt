@@ -17,7 +17,8 @@ use Rattle.machine.specs.Refusals.{at, refusals, applies, Smallest}
 use Rattle.machine.proofs.Refusals.{smallest-given}
 use Rattle.machine.proofs.Case.{Case}
 use Rattle.machine.proofs.Sound.Standing.{Standing, standing}
-use Rattle.machine.proofs.Sound.Keeps.{Good, keeps-good}
+use Rattle.machine.specs.Inside.{Good}
+use Rattle.machine.proofs.Sound.Keeps.{keeps-good}
 
 -- ---- after an accepted setup refusals 2 and 3 never come
 

@@ -54,18 +54,6 @@ pub record Standing (m : Machine) : Type 0 where
   pub turns : TurnsOf m
   pub versions-bounded : (d : ℕ) → d < 64 → getD (m .versions) d 0 ≤ m .commits
 
--- the lengths of a core's list, and its sets are words
-pub record Formed-core (k : Core) : Type 0 where
-  pub jobs-long : length (k .jobs) ≡ 8
-  pub reads-fit : k .reads < 2 ^ 64
-  pub writes-fit : k .writes < 2 ^ 64
-
-pub record Formed (m : Machine) : Type 0 where
-  pub core-long : length (m .core) ≡ 16
-  pub versions-long : length (m .versions) ≡ 64
-  pub tickets-fit : m .tickets ≤ 4294967295
-  pub formed-core : (c : ℕ) → c < 16 → Formed-core (coreAt m c)
-
 -- ---- tests and statements
 
 within : (s n : ℕ) → below s n ≡ true → (d : ℕ) → d < 64 → has s d ≡ true → d < n

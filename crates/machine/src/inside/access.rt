@@ -10,7 +10,7 @@ ghost use Rattle.machine.specs.Rule.{lent, left, unmarked, read as readR
 ghost use Rattle.machine.specs.declared.Answer.the-variants.{SetBack};
 
 // A marked transaction on core c is told that it was set back: the mark is taken away, and nothing more.
-pub fn tell(mut m: Machine, c: usize) -> Outcome
+pub(crate) fn tell(mut m: Machine, c: usize) -> Outcome
     requires { ⌜ c < 16 ⌝ }
     ensures { λ r. ⌜ r ≡ record { answer = SetBack; machine = putCore m c (unmarked (coreAt m c)) } ⌝ }
 {

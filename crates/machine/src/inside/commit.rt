@@ -141,8 +141,8 @@ fn carry_through(m: Machine, c: usize, committed: &mut [u32], pending: &[u32]) -
 
 // Commits the transaction of a core. It is refused where there is no such core (4) or no transaction (9). A marked
 // transaction is told that it was set back, and loses its mark and nothing more. One that conflicts with a smaller ticket
-// waits. Any other goes through. A refusal or a wait leaves the record and both tables as they are, and no call changes the
-// pending table.
+// waits. Any other goes through. A refusal or a wait leaves the record and both tables as they are, and the
+// pending table keeps every word.
 pub fn commit(m: Machine, core: u32, committed: &mut [u32], pending: &mut [u32]) -> Outcome
     requires { ⌜ Fine (lent m (now committed) (now pending)) ⌝ }
     ensures rule { λ r. ⌜ left r (now (committed .exit)) (now (pending .exit)) ≡ commitRule (named (r .answer)) (lent m (now (committed .entry)) (now (pending .entry))) core ⌝ }

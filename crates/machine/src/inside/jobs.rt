@@ -12,7 +12,7 @@ ghost use Rattle.machine.specs.Sound.{sound};
 ghost use Rattle.machine.specs.Rule.{without, release, finish};
 
 // The place of the job of least deadline among the first n, the first released among equals.
-pub fn least_of(jobs: [Job; 8], n: u8) -> u8
+pub(crate) fn least_of(jobs: [Job; 8], n: u8) -> u8
     requires { ⌜ n ≤ 8 ⌝ }
     ensures { λ r. ⌜ r ≡ least jobs n ⌝ }
 {
@@ -28,7 +28,7 @@ pub fn least_of(jobs: [Job; 8], n: u8) -> u8
 }
 
 // The place of the running job: the transaction's own job while one is in progress, else the job of least deadline.
-pub fn running_of(k: Core) -> u8
+pub(crate) fn running_of(k: Core) -> u8
     requires { ⌜ k .count ≤ 8 ⌝ }
     ensures { λ r. ⌜ r ≡ running k ⌝ }
 {

@@ -10,7 +10,7 @@ ghost use Rattle.machine.specs.Sound.{sound};
 ghost use Rattle.machine.specs.Rule.{over, begin as beginRule, giveUp};
 
 // A core with the jobs of k and no transaction.
-pub fn without_transaction(k: Core) -> Core
+pub(crate) fn without_transaction(k: Core) -> Core
     ensures { λ r. ⌜ r ≡ over k ⌝ }
 {
     let jobs = k.jobs;

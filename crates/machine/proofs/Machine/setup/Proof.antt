@@ -6,20 +6,21 @@ use native.Mathlib.Omega.{arith}
 use borrow.Author.Needs.{needs}
 use Rattle.machine.specs.declared.Outcome.{Outcome}
 use Rattle.machine.specs.declared.Answer.the-variants.{Ready}
-use Rattle.machine.specs.Answers.{given}
+use Rattle.machine.specs.Refusals.{setupRefusals}
 use Rattle.machine.specs.Rule.{Result, lent, left, setup}
 use Rattle.machine.specs.Claims.{EveryRun}
 use Rattle.machine.proofs.Run.WholeRun.{every-run}
 use Rattle.machine.proofs.DoorLaws.{few-of, setup-range, setup-misfit, setup-made}
+use Rattle.machine.proofs.Told.{Paper, setup-told}
 use Rattle.machine.proofs.Machine.setup.Statement.{statement}
 use Rattle.machine.proofs.Machine.setup.Tie as tie
 
 -- the rule's equation gives the claim about every run that follows
 kept : (cores objects : ℕ) (committed pending : List ℕ) (r : Outcome) (cs ps : List ℕ) → left r cs ps ≡ setup cores objects committed pending
     → (left r cs ps ≡ setup cores objects committed pending)
-    × ((r .answer ≡ Ready → EveryRun (lent (r .machine) cs ps)) × (given (r .answer) ≡ given (setup cores objects committed pending .answer)))
+    × ((r .answer ≡ Ready → EveryRun (lent (r .machine) cs ps)) × Paper (r .answer) (setupRefusals cores objects committed pending) (setup cores objects committed pending .answer))
 kept cores objects committed pending r cs ps e =
-    (e, (every-run cores objects committed pending r cs ps e, ap (λ (x : Result). given (x .answer)) e))
+    (e, (every-run cores objects committed pending r cs ps e, setup-told cores objects committed pending (r .answer) (ap (λ (x : Result). x .answer) e)))
 
 in-range-requires : tie.Need-in-range-requires
 in-range-requires c κs = search needs
