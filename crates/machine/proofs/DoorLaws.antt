@@ -13,7 +13,9 @@ use Rattle.machine.specs.declared.Answer.the-variants.{Refused, Ready, W
 use Rattle.machine.specs.Record.{blank, machineOf}
 use Rattle.machine.specs.Sound.{sound}
 use Rattle.machine.specs.Inside.{Fine}
-use Rattle.machine.specs.Rule.{World, lent, release, begin, giveUp, finish, accessRefusal, read, write, commitRefusal, commit, setup}
+use Rattle.machine.specs.declared.Outcome.{Outcome}
+use Rattle.machine.specs.Answers.{given}
+use Rattle.machine.specs.Rule.{World, Result, lent, release, begin, giveUp, finish, accessRefusal, read, write, commitRefusal, commit, setup}
 use Rattle.machine.proofs.CallLaws.{skips, hits, none-holds, refused, is-sound}
 use Rattle.machine.proofs.AccessLaws.{refused-lent, accepted-lent}
 
@@ -121,3 +123,14 @@ module _ (cores objects : ℕ) (committed pending : List ℕ) where
         (eqb-true (length committed) objects (both-left _ (eqb (length pending) (cores * objects)) t))
         (eqb-true (length pending) (cores * objects) (both-right (eqb (length committed) objects) _ t))
         ∙ accepted-lent _ _ _ (skips _ _ _ (ap not r) (skips _ _ _ (ap not t) none-holds))
+
+-- an outcome that is the rule's has the rule's number and values
+pub outcome-told : (r s : Outcome) → r ≡ s → (r ≡ s) × (given (r .answer) ≡ given (s .answer))
+outcome-told r s e = (e, ap (λ (x : Outcome). given (x .answer)) e)
+
+pub result-told : (r s : Result) → r ≡ s → (r ≡ s) × (given (r .answer) ≡ given (s .answer))
+result-told r s e = (e, ap (λ (x : Result). given (x .answer)) e)
+
+-- the same beside what holds of the core that waits names
+pub commit-told : {Waiting : Type 0} (r s : Result) → r ≡ s → Waiting → (r ≡ s) × (Waiting × (given (r .answer) ≡ given (s .answer)))
+commit-told r s e w = (e, (w, ap (λ (x : Result). given (x .answer)) e))

@@ -53,6 +53,10 @@ values Ended = []
 values (Finished j) = j ∷ []
 values (Refused n) = n ∷ []
 
+-- document 01's number and values of an answer
+abbrev pub given : Answer → ℕ × List ℕ
+given a = (number a, values a)
+
 -- the core that an answer of waits names; 0 for any other
 unfoldable pub named : Answer → ℕ
 named Ready = 0

@@ -18,7 +18,7 @@ ghost use Rattle.machine.specs.Rule.{lent, left};
 ghost use Rattle.machine.specs.Record.{blank};
 ghost use Rattle.machine.specs.declared.Answer.the-variants.{Ready, Refused, Waits};
 ghost use Rattle.machine.specs.Claims.{EveryRun};
-ghost use Rattle.machine.specs.Answers.{named};
+ghost use Rattle.machine.specs.Answers.{named, given};
 
 pub mod inside;
 mod setup;
@@ -148,6 +148,7 @@ impl Machine {
     pub fn setup(cores: u32, cards: u32, committed: &mut [u32], pending: &mut [u32]) -> Outcome
         ensures rule { λ r. ⌜ left r (now (committed .exit)) (now (pending .exit)) ≡ Rule.setup cores cards (now (committed .entry)) (now (pending .entry)) ⌝ }
         ensures runs { λ r. ⌜ (r .answer ≡ Ready → EveryRun (lent (r .machine) (now (committed .exit)) (now (pending .exit)))) ⌝ }
+        ensures paper { λ r. ⌜ given (r .answer) ≡ given (Rule.setup cores cards (now (committed .entry)) (now (pending .entry)) .answer) ⌝ }
     {
         if in_range(cores, cards) {
             let n = cores as u8;
@@ -170,7 +171,8 @@ impl Machine {
     // The job joins the end of the core's list; running, if it is the running job now, or queued. 2 unsound record, 4 no such core,
     // 6 the core has 8 jobs. Refused, the record comes back as given.
     pub fn release(self, core: u32, job: u16, deadline: u32) -> Outcome
-        ensures { λ r. ⌜ r ≡ Rule.release self core job deadline ⌝ }
+        ensures rule { λ r. ⌜ r ≡ Rule.release self core job deadline ⌝ }
+        ensures paper { λ r. ⌜ given (r .answer) ≡ given (Rule.release self core job deadline .answer) ⌝ }
     {
         if is_sound(self) {
             jobs::release(self, core, job, deadline)
@@ -185,7 +187,8 @@ impl Machine {
     // The running job's transaction gets the next ticket: 2 unsound record, 4 no such core, 7 the core has no job, 8 a transaction
     // is in progress, 10 every ticket is given. Refused, the record comes back as given.
     pub fn begin(self, core: u32) -> Outcome
-        ensures { λ r. ⌜ r ≡ Rule.begin self core ⌝ }
+        ensures rule { λ r. ⌜ r ≡ Rule.begin self core ⌝ }
+        ensures paper { λ r. ⌜ given (r .answer) ≡ given (Rule.begin self core .answer) ⌝ }
     {
         if is_sound(self) {
             transaction::begin(self, core)
@@ -201,7 +204,8 @@ impl Machine {
     // read set. A marked transaction is told that it was set back instead. 2 unsound record, 3 wrong table, 4 no such core, 5 no
     // such card, 9 none in progress. Both tables keep every word; refused, the record comes back as given.
     pub fn read(self, core: u32, card: u32, committed: &mut [u32], pending: &mut [u32]) -> Outcome
-        ensures { λ r. ⌜ left r (now (committed .exit)) (now (pending .exit)) ≡ Rule.read (lent self (now (committed .entry)) (now (pending .entry))) core card ⌝ }
+        ensures rule { λ r. ⌜ left r (now (committed .exit)) (now (pending .exit)) ≡ Rule.read (lent self (now (committed .entry)) (now (pending .entry))) core card ⌝ }
+        ensures paper { λ r. ⌜ given (r .answer) ≡ given (Rule.read (lent self (now (committed .entry)) (now (pending .entry))) core card .answer) ⌝ }
     {
         if is_sound(self) {
             if tables_fit(self.cores, self.objects, committed.len(), pending.len()) {
@@ -231,7 +235,8 @@ impl Machine {
         committed: &mut [u32],
         pending: &mut [u32],
     ) -> Outcome
-        ensures { λ r. ⌜ left r (now (committed .exit)) (now (pending .exit)) ≡ Rule.write (lent self (now (committed .entry)) (now (pending .entry))) core card value ⌝ }
+        ensures rule { λ r. ⌜ left r (now (committed .exit)) (now (pending .exit)) ≡ Rule.write (lent self (now (committed .entry)) (now (pending .entry))) core card value ⌝ }
+        ensures paper { λ r. ⌜ given (r .answer) ≡ given (Rule.write (lent self (now (committed .entry)) (now (pending .entry))) core card value .answer) ⌝ }
     {
         if is_sound(self) {
             if tables_fit(self.cores, self.objects, committed.len(), pending.len()) {
@@ -256,6 +261,7 @@ impl Machine {
     pub fn commit(self, core: u32, committed: &mut [u32], pending: &mut [u32]) -> Outcome
         ensures rule { λ r. ⌜ left r (now (committed .exit)) (now (pending .exit)) ≡ Rule.commit (named (r .answer)) (lent self (now (committed .entry)) (now (pending .entry))) core ⌝ }
         ensures waits { λ r. ⌜ ((e : ℕ) → r .answer ≡ Waits e → Rule.contender self core e ≡ true) ⌝ }
+        ensures paper { λ r. ⌜ given (r .answer) ≡ given (Rule.commit (named (r .answer)) (lent self (now (committed .entry)) (now (pending .entry))) core .answer) ⌝ }
     {
         if is_sound(self) {
             if tables_fit(self.cores, self.objects, committed.len(), pending.len()) {
@@ -277,7 +283,8 @@ impl Machine {
     // The transaction ends without effect: 2 unsound record, 4 no such core, 9 none in progress. Refused, the record comes back as
     // given.
     pub fn give_up(self, core: u32) -> Outcome
-        ensures { λ r. ⌜ r ≡ Rule.giveUp self core ⌝ }
+        ensures rule { λ r. ⌜ r ≡ Rule.giveUp self core ⌝ }
+        ensures paper { λ r. ⌜ given (r .answer) ≡ given (Rule.giveUp self core .answer) ⌝ }
     {
         if is_sound(self) {
             transaction::give_up(self, core)
@@ -292,7 +299,8 @@ impl Machine {
     // The running job leaves the list, the others keep their order; its number is the answer. 2 unsound record, 4 no such core, 7
     // the core has no job, 8 a transaction is in progress. Refused, the record comes back as given.
     pub fn finish(self, core: u32) -> Outcome
-        ensures { λ r. ⌜ r ≡ Rule.finish self core ⌝ }
+        ensures rule { λ r. ⌜ r ≡ Rule.finish self core ⌝ }
+        ensures paper { λ r. ⌜ given (r .answer) ≡ given (Rule.finish self core .answer) ⌝ }
     {
         if is_sound(self) {
             jobs::finish(self, core)

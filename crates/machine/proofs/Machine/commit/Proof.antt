@@ -5,7 +5,7 @@ use Prim.Native.Nat.{ℕ}
 use native.Mathlib.Omega.{arith}
 use borrow.Author.Needs.{needs}
 use Rattle.machine.specs.Answers.{named}
-use Rattle.machine.proofs.DoorLaws.{commit-unsound, commit-misfit, fine-of, refused-not-waits}
+use Rattle.machine.proofs.DoorLaws.{commit-told, commit-unsound, commit-misfit, fine-of, refused-not-waits}
 use Rattle.machine.proofs.Machine.commit.Statement.{statement}
 use Rattle.machine.proofs.Machine.commit.Tie as tie
 
@@ -29,19 +29,19 @@ same-length-2 : tie.Need-same-length-2
 same-length-2 c = search needs
 
 returns : tie.Need-returns
-returns c = search needs
+returns c = commit-told _ _ (c .before .before .before .before .commit .ensures .0) (c .before .before .before .before .commit .ensures .1)
 
 returns-2 : tie.Need-returns-2
 returns-2 c =
     let fit = c .before in
-    let then1 = fit .before in (
-      commit-misfit _ _ (sym (then1 .before .is-sound .ensures) ∙ then1 .if1 .taken) (sym (fit .tables-fit .ensures) ∙ c .if2 .left) _,
-      λ e p. absurd (refused-not-waits 3 e p),
-    )
+    let then1 = fit .before in
+    commit-told _ _
+    (commit-misfit _ _ (sym (then1 .before .is-sound .ensures) ∙ then1 .if1 .taken) (sym (fit .tables-fit .ensures) ∙ c .if2 .left) _)
+    (λ e p. absurd (refused-not-waits 3 e p))
 
 returns-3 : tie.Need-returns-3
 returns-3 c =
-    (commit-unsound _ _ (sym (c .before .is-sound .ensures) ∙ c .if1 .left) _, λ e p. absurd (refused-not-waits 2 e p))
+    commit-told _ _ (commit-unsound _ _ (sym (c .before .is-sound .ensures) ∙ c .if1 .left) _) (λ e p. absurd (refused-not-waits 2 e p))
 
 pub commit-spec : {M : Type 1} → statement M
 commit-spec =

@@ -1,12 +1,13 @@
 -- `machine::Machine::setup` meets its contract. Assumes nothing.
-use mathlib.Core.Path.{_≡_, sym, _∙_}
+use mathlib.Core.Path.{_≡_, sym, ap, _∙_}
 use mathlib.Core.List.{List}
 use Prim.Native.Nat.{ℕ}
 use native.Mathlib.Omega.{arith}
 use borrow.Author.Needs.{needs}
 use Rattle.machine.specs.declared.Outcome.{Outcome}
 use Rattle.machine.specs.declared.Answer.the-variants.{Ready}
-use Rattle.machine.specs.Rule.{lent, left, setup}
+use Rattle.machine.specs.Answers.{given}
+use Rattle.machine.specs.Rule.{Result, lent, left, setup}
 use Rattle.machine.specs.Claims.{EveryRun}
 use Rattle.machine.proofs.Run.WholeRun.{every-run}
 use Rattle.machine.proofs.DoorLaws.{few-of, setup-range, setup-misfit, setup-made}
@@ -15,8 +16,10 @@ use Rattle.machine.proofs.Machine.setup.Tie as tie
 
 -- the rule's equation gives the claim about every run that follows
 kept : (cores objects : ℕ) (committed pending : List ℕ) (r : Outcome) (cs ps : List ℕ) → left r cs ps ≡ setup cores objects committed pending
-    → (left r cs ps ≡ setup cores objects committed pending) × (r .answer ≡ Ready → EveryRun (lent (r .machine) cs ps))
-kept cores objects committed pending r cs ps e = (e, every-run cores objects committed pending r cs ps e)
+    → (left r cs ps ≡ setup cores objects committed pending)
+    × ((r .answer ≡ Ready → EveryRun (lent (r .machine) cs ps)) × (given (r .answer) ≡ given (setup cores objects committed pending .answer)))
+kept cores objects committed pending r cs ps e =
+    (e, (every-run cores objects committed pending r cs ps e, ap (λ (x : Result). given (x .answer)) e))
 
 in-range-requires : tie.Need-in-range-requires
 in-range-requires c κs = search needs

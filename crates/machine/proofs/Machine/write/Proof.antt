@@ -1,7 +1,7 @@
 -- `machine::Machine::write` meets its contract: an unsound record and a table of another length are refused, the rest goes to the inside function. Assumes nothing.
 use mathlib.Core.Path.{sym, _∙_}
 use borrow.Author.Needs.{needs}
-use Rattle.machine.proofs.DoorLaws.{write-unsound, write-misfit, fine-of}
+use Rattle.machine.proofs.DoorLaws.{result-told, write-unsound, write-misfit, fine-of}
 use Rattle.machine.proofs.Machine.write.Statement.{statement}
 use Rattle.machine.proofs.Machine.write.Tie as tie
 
@@ -25,16 +25,16 @@ same-length-2 : tie.Need-same-length-2
 same-length-2 c = search needs
 
 returns : tie.Need-returns
-returns c = search needs
+returns c = result-told _ _ (c .before .before .write .ensures)
 
 returns-2 : tie.Need-returns-2
 returns-2 c =
     let fit = c .before in
     let then1 = fit .before in
-    write-misfit _ _ (sym (then1 .before .is-sound .ensures) ∙ then1 .if1 .taken) (sym (fit .tables-fit .ensures) ∙ c .if2 .left) _ _
+    result-told _ _ (write-misfit _ _ (sym (then1 .before .is-sound .ensures) ∙ then1 .if1 .taken) (sym (fit .tables-fit .ensures) ∙ c .if2 .left) _ _)
 
 returns-3 : tie.Need-returns-3
-returns-3 c = write-unsound _ _ (sym (c .before .is-sound .ensures) ∙ c .if1 .left) _ _
+returns-3 c = result-told _ _ (write-unsound _ _ (sym (c .before .is-sound .ensures) ∙ c .if1 .left) _ _)
 
 pub write-spec : {M : Type 1} → statement M
 write-spec =
