@@ -74,7 +74,7 @@ extern "C" {
  *   - CARDS_STACK_ENOUGH bytes of stack are left.
  *
  * The time grows with the script's length. Nothing is waited for. The script is run once to find the length of its listing and, if
- * that fits, a second time to write it; so a call that is refused takes about half the time of one that is not. */
+ * that fits, a second time to write it. */
 size_t cards_run(const uint8_t *script, size_t script_length, uint8_t *output, size_t output_length);
 
 #ifdef __cplusplus
