@@ -2,12 +2,12 @@
 
 .PHONY: run test lib host fuzz guards bench clean
 
-# The script program `cards` is not built yet; until then this says so.
+# proves and builds `cards` (minutes the first time, nothing after that) and runs it on case A of document 01
 run:
-	@echo "make run: the program 'cards' is not in this repository yet; the second implementation runs case A:"
-	@tests/tool.sh cargo
-	@cd reference && cargo build --quiet --release --offline
-	@reference/target/release/cards-reference < examples/case-a.script
+	@tests/tool.sh rt
+	@mkdir -p build
+	@rt check cards > build/run.log 2>&1 || { tail -20 build/run.log; exit 1; }
+	@target/bin/cards < examples/case-a.script
 
 test:
 	@tests/run.sh
