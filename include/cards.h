@@ -34,7 +34,7 @@ extern "C" {
 #endif
 
 /* An output of so many bytes is always enough for a script of so many lines, whatever is in them: 18 bytes of heading, and for each
- * line at most 25, as in "1000000 value 4294967295\n".
+ * line at most 25, as in "1000000 value 4294967295\n". The tests of host/ hold it; it is not proved.
  *
  * Lines: one more than the newlines of the script is never too few; an empty script counts as one line. No line after line 1,000,001
  * is read, so 25,000,043 bytes are enough for every script. Most listings are shorter: about 12 bytes a line, and 17 where line
@@ -59,7 +59,11 @@ extern "C" {
  *   0: the listing is longer than output_length (refusal 12). No byte of the output was touched; lend a larger one and call again.
  *      No listing is empty, so 0 means nothing else.
  *
- * A script cannot be wrong as a whole: a line that is not a call is answered "refused 11" in the listing, and the next one is read.
+ * That the length and every byte of the output are as said here is proved, for every script and every output.
+ *
+ * README.md has the script's format. No script is refused as a whole: a line that is not a call is answered "refused 11" in the
+ * listing, and the next one is read. Where line 1 is not a line of names, or there is no byte, the listing has one line below its
+ * heading, "1 refused 11". Line 1,000,001 is answered "refused 11", and no line after it is read.
  *
  * Every call starts afresh, with no machine until the script's first setup. Nothing is left behind: no static variable, no heap. So
  * several tasks may call at the same time.
@@ -69,7 +73,8 @@ extern "C" {
  *   - script and output do not overlap, and nobody else writes to either during the call;
  *   - CARDS_STACK_ENOUGH bytes of stack are left.
  *
- * The time grows with the script's length. Nothing is waited for. */
+ * The time grows with the script's length. Nothing is waited for. The script is run once to find the length of its listing and, if
+ * that fits, a second time to write it. */
 size_t cards_run(const uint8_t *script, size_t script_length, uint8_t *output, size_t output_length);
 
 #ifdef __cplusplus
