@@ -87,6 +87,17 @@ streams() {
   "$bin/cards-reference" < "$work/longer" | cmp - "$work/listing"
 }
 
+# nothing is read after a bad names line: cards ends though its input does not
+stops() {
+  yes x 2> /dev/null | timeout 10 "$cards" > "$work/listing" && printf 'line answer value\n1 refused 11\n' | cmp - "$work/listing"
+}
+
+# the timeline in README.md is case A's
+timeline() {
+  sh docs/timeline.sh examples/case-a.script examples/case-a.listing > "$work/timeline"
+  awk '/^line  core 0/ { on = 1 } /^```/ { on = 0 } on' README.md | cmp - "$work/timeline"
+}
+
 # the archive needs no more than cards.h says, and has no variable that could be kept between calls
 archive_is_plain() {
   local needs
@@ -107,6 +118,8 @@ check "cards, quick scripts" "$bin/compare" --quick --seed 1 --count $scripts "$
 check "cards, input in pieces" "$bin/compare" --pieces --seed 1 --count 100 "$cards"
 check "cards, a million lines" by_the_million by_cards
 check "cards, constant memory" streams
+check "cards, an input without end" stops
+check "the timeline of case A" timeline
 check "claims on a run of cards" claims_hold_on_cards
 
 check "C entry: the archive and its host" make --no-print-directory host

@@ -20,7 +20,7 @@ fn main() {
     }
 }
 
-// Runs the script from here to its end. A proved loop has to end, and nothing says that the input does; so the loop counts its turns
+// Runs the script from here to its end, or until nothing more is read. A proved loop has to end, and nothing says that the input does; so the loop counts its turns
 // down, from a number that no run uses up.
 fn run(first: Reading, committed: &mut [u32], pending: &mut [u32], output: &mut [u8])
     requires { ⌜ Fit first (now committed) (now pending) × (65536 ≤ length (now output)) ⌝ }
@@ -45,10 +45,18 @@ fn run(first: Reading, committed: &mut [u32], pending: &mut [u32], output: &mut 
             if !written(&output[..k]) {
                 return;
             }
+            turns = turns_left(reading.going, turns);
         }
     }
     let k = runner::finish(reading, committed, pending, output);
     written(&output[..k]);
+}
+
+// The turns that are left: none once nothing more is read.
+fn turns_left(going: bool, turns: u64) -> u64
+    ensures { λ r. ⌜ r ≤ turns ⌝ }
+{
+    if going { turns } else { 0 }
 }
 
 // Writes all of the text to standard output, and answers whether it could.

@@ -167,8 +167,8 @@ fn write_with(word: &[u8], value: u32) {
 
 fn write_number(n: u32) {
     let mut scratch = [0u8; 10];
-    let k = decimal::put(n, &mut scratch);
-    write(&scratch[..k]);
+    let digits = decimal::print(n, &mut scratch);
+    write(digits);
 }
 
 fn write(bytes: &[u8]) {

@@ -94,19 +94,22 @@ same-length-6 c = c .before .before .before .before .before .before .before .bef
 returns-2 : tie.Need-returns-2 Inv-loop μ-loop
 returns-2 c = search needs
 
+turns-left-requires : tie.Need-turns-left-requires Inv-loop μ-loop
+turns-left-requires c κs = search needs
+
 loop-less-2 : tie.Need-loop-less-2 Inv-loop μ-loop
 loop-less-2 c = search needs
 
 loop-again-2 : tie.Need-loop-again-2 Inv-loop μ-loop
 loop-again-2 c =
-    let done = c .before .before .before .before .before .before .before .before .before .before .feed in
-    let inv = c .before .before .before .before .before .before .before .before .before .before .before .before .before .before .before .before .before .before .before .before .before .before .before .loop .inv in (
+    let done = c .before .before .before .before .before .before .before .before .before .before .before .feed in
+    let inv = c .before .before .before .before .before .before .before .before .before .before .before .before .before .before .before .before .before .before .before .before .before .before .before .before .loop .inv in (
       done .ensures .0,
       done .kept .1 .1 .0 ∙ inv .1,
       done .kept .1 .1 .1 .0 ∙ inv .2,
       done .kept .1 .1 .1 .1 .0 ∙ inv .3,
       omega (arith, done .kept .1 .1 .1 .1 .0, inv .4),
-      c .before .before .before .before .before .before .before .before .before .before .before .before .before .before .before .before .before .before .before .before .read .kept .1 .0 ∙ inv .5,
+      c .before .before .before .before .before .before .before .before .before .before .before .before .before .before .before .before .before .before .before .before .before .read .kept .1 .0 ∙ inv .5,
     )
 
 finish-requires : tie.Need-finish-requires Inv-loop μ-loop
@@ -163,6 +166,7 @@ run-spec =
     same-length-5
     same-length-6
     returns-2
+    turns-left-requires
     loop-less-2
     loop-again-2
     finish-requires
