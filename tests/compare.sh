@@ -95,7 +95,7 @@ stops() {
 # the timeline in README.md is case A's
 timeline() {
   sh docs/timeline.sh examples/case-a.script examples/case-a.listing > "$work/timeline"
-  awk '/^line  core 0/ { on = 1 } /^```/ { on = 0 } on' README.md | cmp - "$work/timeline"
+  awk '/^    line  core 0/ { on = 1 } !/^    / { on = 0 } on { sub(/^    /, ""); print }' README.md | cmp - "$work/timeline"
 }
 
 # the archive needs no more than cards.h says, and has no variable that could be kept between calls
