@@ -3,7 +3,7 @@ ghost use mathlib.Core.Path.{_≡_};
 ghost use mathlib.Core.List.{[]};
 ghost use lib.ListN.{getD};
 ghost use Rattle.script.specs.Pieces.{same};
-ghost use Rattle.script.specs.Line.{fieldEnd, fields};
+ghost use Rattle.script.specs.Line.{fieldEnd, afterField, fields};
 ghost use Rattle.script.specs.Spaces.{Spaced, Parted};
 
 // The places of the three spaces of a line of four fields.
@@ -30,6 +30,16 @@ pub fn field_end(line: &[u8], from: usize) -> usize
         i += 1;
     }
     i
+}
+
+// Where the field after the one that begins at a place begins: past that one and its space.
+pub fn after_field(line: &[u8], from: usize) -> usize
+    ensures { λ r. ⌜ r ≡ afterField (now (line .entry)) from ⌝ }
+{
+    if line.len() < from {
+        return from;
+    }
+    field_end(line, from) + 1
 }
 
 // Finds the three spaces of a line, one pass over it.

@@ -6,6 +6,7 @@
 mod calls;
 mod fields;
 mod heading;
+pub mod reader;
 
 pub use calls::parse;
 pub use fields::field_end;
