@@ -2,7 +2,8 @@
 // and `fields::after_field`, takes the line and a number. Assumes nothing.
 ghost use mathlib.Core.Path.{_≡_};
 ghost use Rattle.script.specs.Line.{fieldEnd, afterField};
-use crate::fields::{after_field, field_end};
+use crate::fields::after_field;
+use crate::fields::field_end;
 
 pub struct LineReader<'a> {
     pub line: &'a [u8],
@@ -34,7 +35,10 @@ pub fn next_end<'a>(r: LineReader<'a>) -> usize
 pub fn moved<'a>(r: LineReader<'a>) -> LineReader<'a>
     ensures { λ q. ⌜ (q .line ≡ r .entry .line) × (q .at ≡ afterField (now (r .entry .line)) (r .entry .at)) ⌝ }
 {
-    LineReader { line: r.line, at: after_field(r.line, r.at) }
+    LineReader {
+        line: r.line,
+        at: after_field(r.line, r.at),
+    }
 }
 
 // Where the field that begins at a place ends, by the reader.
