@@ -82,9 +82,9 @@ module _ (line : List ℕ) (from to : ℕ) (e : to ≡ fieldEnd line from) where
   unfolding fieldEnd
   not-before = omega arith
 
-  pub near : to ≤ from + length line
+  pub inside : from ≤ length line → to ≤ length line
   unfolding fieldEnd
-  near = omega (arith, ends-within (drop from line), length-drop from line)
+  inside h = omega (arith, ends-within (drop from line), length-drop from line)
 
   pub cut-at : to < length line → pieces 32 (drop from line) ≡ between from to line ∷ pieces 32 (drop (to + 1) line)
   unfolding fieldEnd Cut

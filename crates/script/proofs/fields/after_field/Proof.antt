@@ -4,7 +4,7 @@ use native.Mathlib.Omega.{arith}
 use borrow.Author.Needs.{needs}
 use borrow.Author.Tests.{le-leb, lt-leb}
 use Rattle.script.specs.Line.{afterField}
-use Rattle.script.proofs.Ends.{near}
+use Rattle.script.proofs.Ends.{inside}
 use Rattle.script.proofs.fields.after_field.Statement.{statement}
 use Rattle.script.proofs.fields.after_field.Tie as tie
 
@@ -16,7 +16,7 @@ field-end-requires : tie.Need-field-end-requires
 field-end-requires c κs = search needs
 
 add-result : tie.Need-add-result
-add-result c = omega (arith, near _ _ _ (c .field-end .ensures))
+add-result c = omega (arith, inside _ _ _ (c .field-end .ensures) (omega arith))
 
 returns-2 : tie.Need-returns-2
 unfolding afterField
