@@ -12,9 +12,9 @@ use native.Mathlib.Omega.{arith}
 use lib.Dec.{eqb}
 use lib.ListN.{length, getD, take, drop, drop-of-length-le, length-drop}
 use lib.Seq.{drop-cons, drop-drop}
-use borrow.Author.Tests.{eq-eqb, ne-eqb, le-leb}
+use borrow.Author.Tests.{eq-eqb, ne-eqb, le-leb, lt-leb}
 use Rattle.script.specs.Pieces.{onto, pieces}
-use Rattle.script.specs.Line.{longest, untilSpace, fieldEnd, fields}
+use Rattle.script.specs.Line.{longest, untilSpace, fieldEnd, afterField, fields}
 use Rattle.script.specs.declared.fields.Spaces.{Spaces}
 use Rattle.script.specs.declared.fields.Bounds.{Bounds}
 use Rattle.script.specs.declared.fields.Bounds.the-variants.{Four, Other}
@@ -82,9 +82,9 @@ module _ (line : List ℕ) (from to : ℕ) (e : to ≡ fieldEnd line from) where
   unfolding fieldEnd
   not-before = omega arith
 
-  pub near : to ≤ from + length line
+  pub inside : from ≤ length line → to ≤ length line
   unfolding fieldEnd
-  near = omega (arith, ends-within (drop from line), length-drop from line)
+  inside h = omega (arith, ends-within (drop from line), length-drop from line)
 
   pub cut-at : to < length line → pieces 32 (drop from line) ≡ between from to line ∷ pieces 32 (drop (to + 1) line)
   unfolding fieldEnd Cut
@@ -148,6 +148,57 @@ module _ {line : List ℕ} {a b c : ℕ} (row : InRow line a b c) where
       with-pieces line (row .short) _ (one-cut ∙ ap (_∷_ (between 0 a line)) (two-cut ∙ ap (_∷_ (between (a + 1) b line)) (cut-last line (b + 1) c (row .three) h))))
       (λ nb. with-pieces line (row .short) _ (one-cut ∙ ap (_∷_ (between 0 a line)) (cut-last line (a + 1) b (row .two) (omega arith)))))
       (λ na. with-pieces line (row .short) _ (cut-last line 0 a (row .one) (omega arith)))
+
+-- ---- the same, by where the second, third and fourth field begin
+
+module _ (line : List ℕ) (from to : ℕ) (e : to ≡ afterField line from) where
+  pub after-end : from ≤ length line → to ≡ fieldEnd line from + 1
+  unfolding afterField
+  after-end h = e ∙ rw (le-leb from (length line) h)
+
+  pub after-none : length line < from → to ≡ from
+  unfolding afterField
+  after-none h = e ∙ rw (lt-leb from (length line) h)
+
+pub record Begin (line : List ℕ) (b c d : ℕ) : Type 0 where
+  pub short : length line ≤ longest
+  pub second : b ≡ afterField line 0
+  pub third : c ≡ afterField line b
+  pub fourth : d ≡ afterField line c
+
+module _ {line : List ℕ} {b c d : ℕ} (begin : Begin line b c d) where
+  second-at : b ≡ fieldEnd line 0 + 1
+  second-at = after-end line 0 b (begin .second) (omega arith)
+
+  pub each-ends : d ≤ length line → (b ≡ fieldEnd line 0 + 1) × (c ≡ fieldEnd line b + 1) × (d ≡ fieldEnd line c + 1)
+  each-ends h =
+      let c-in : c ≤ length line = dite (decLt (length line) c) (λ p. omega (arith, after-none line c d (begin .fourth) p)) (λ p. omega arith) in
+      let b-in : b ≤ length line = dite (decLt (length line) b) (λ p. omega (arith, after-none line b c (begin .third) p)) (λ p. omega arith) in
+      (second-at, after-end line b c (begin .third) b-in, after-end line c d (begin .fourth) c-in)
+
+  pub spaces-before : d ≤ length line → InRow line (b - 1) (c - 1) (d - 1)
+  spaces-before h =
+      let ends = each-ends h in
+      let b-back : b - 1 + 1 ≡ b = omega (arith, ends) in
+      let c-back : c - 1 + 1 ≡ c = omega (arith, ends) in
+      record { short = begin .short; one = omega (arith, ends); two = rw b-back (omega (arith, ends)); three = rw c-back (omega (arith, ends)) }
+
+  pub fourth-end : d ≤ length line → fieldEnd line (d - 1 + 1) ≡ fieldEnd line d
+  fourth-end h = let back : d - 1 + 1 ≡ d = omega (arith, each-ends h) in ap (fieldEnd line) back
+
+  pub no-fourth : length line < d → fields line ≡ []
+  no-fourth h =
+      let x = fieldEnd line 0 in
+      let y = fieldEnd line (x + 1) in
+      let z = fieldEnd line (y + 1) in
+      let row : InRow line x y z = record { short = begin .short; one = refl; two = refl; three = refl } in
+      let past : length line ≤ z = dite (decLt (length line) b)
+      (λ p. omega (arith, second-at, apart row))
+      (λ p. let third-at : c ≡ y + 1 = after-end line b c (begin .third) (omega arith) ∙ ap (λ (i : ℕ). fieldEnd line i + 1) second-at in
+      dite (decLt (length line) c)
+      (λ q. omega (arith, third-at, apart row))
+      (λ q. omega (arith, after-end line c d (begin .fourth) (omega arith), ap (fieldEnd line) third-at))) in
+      under row past
 
 -- ---- what a caller learns of the fields
 

@@ -39,6 +39,11 @@ untilSpace (b ∷ bs) = cond (eqb b 32) 0 (suc (untilSpace bs))
 unfoldable pub fieldEnd : List ℕ → ℕ → ℕ
 fieldEnd line from = from + untilSpace (drop from line)
 
+-- where the field after the one that begins at a place begins: past that one and its space, past the line's end where it is the last;
+-- past the end, at the place itself
+unfoldable pub afterField : List ℕ → ℕ → ℕ
+afterField line from = cond (leb from (length line)) (fieldEnd line from + 1) from
+
 -- ---- the line of names: call, core, card, value, each once, in any order
 
 -- the bytes of `call`, `core`, `card` and `value`

@@ -3,8 +3,10 @@ ghost use mathlib.Core.Path.{_≡_};
 ghost use mathlib.Core.List.{[]};
 ghost use lib.ListN.{getD};
 ghost use Rattle.script.specs.Pieces.{same};
-ghost use Rattle.script.specs.Line.{fieldEnd, fields};
+ghost use Rattle.script.specs.Line.{fieldEnd, afterField, fields};
 ghost use Rattle.script.specs.Spaces.{Spaced, Parted};
+use crate::reader::end_from;
+use crate::reader::next_from;
 
 // The places of the three spaces of a line of four fields.
 pub(crate) struct Spaces(pub(crate) usize, pub(crate) usize, pub(crate) usize);
@@ -32,23 +34,33 @@ pub fn field_end(line: &[u8], from: usize) -> usize
     i
 }
 
-// Finds the three spaces of a line, one pass over it.
+// Where the field after the one that begins at a place begins: past that one and its space.
+pub fn after_field(line: &[u8], from: usize) -> usize
+    ensures { λ r. ⌜ r ≡ afterField (now (line .entry)) from ⌝ }
+{
+    if line.len() < from {
+        return from;
+    }
+    field_end(line, from) + 1
+}
+
+// Finds the three spaces of a line by the line reader, one pass over it.
 pub(crate) fn cut(line: &[u8]) -> Bounds
     ensures { λ r. ⌜ Parted (now (line .entry)) r ⌝ }
 {
     if LONGEST < line.len() {
         return Bounds::Other;
     }
-    let first = field_end(line, 0);
-    let second = field_end(line, first + 1);
-    let third = field_end(line, second + 1);
-    if line.len() <= third {
+    let second = next_from(line, 0);
+    let third = next_from(line, second);
+    let fourth = next_from(line, third);
+    if line.len() < fourth {
         return Bounds::Other;
     }
-    if field_end(line, third + 1) < line.len() {
+    if end_from(line, fourth) < line.len() {
         return Bounds::Other;
     }
-    Bounds::Four(Spaces(first, second, third))
+    Bounds::Four(Spaces(second - 1, third - 1, fourth - 1))
 }
 
 // The bytes of a field, counted from 0; none past the last.

@@ -1,11 +1,11 @@
--- `script::fields::cut` meets its contract: three fields in a row end within the line and the fourth with it, or there are not four.
+-- `script::fields::cut` meets its contract: the fourth field begins within the line and ends with it, or there are not four.
 -- Assumes nothing.
 use native.Mathlib.Omega.{arith}
 use denote.Ref.{now}
 use borrow.Author.Needs.{needs}
 use Rattle.script.specs.Spaces.{Parted}
 use Rattle.script.proofs.Laws.{no-fields}
-use Rattle.script.proofs.Ends.{near, InRow, apart, four, over, under}
+use Rattle.script.proofs.Ends.{Begin, each-ends, spaces-before, fourth-end, no-fourth, apart, four, over}
 use Rattle.script.proofs.fields.cut.Statement.{statement}
 use Rattle.script.proofs.fields.cut.Tie as tie
 
@@ -13,64 +13,73 @@ returns : tie.Need-returns
 unfolding Parted
 returns c = no-fields (now (c .before .before .args .line)) (omega arith)
 
-field-end-requires : tie.Need-field-end-requires
-field-end-requires c κs = search needs
+next-from-requires : tie.Need-next-from-requires
+next-from-requires c κs = search needs
 
-add-field-end : tie.Need-add-field-end
-add-field-end c = omega (arith, near _ _ _ (c .field-end .ensures))
+next-from-requires-2 : tie.Need-next-from-requires-2
+next-from-requires-2 c κs = search needs
 
-field-end-requires-2 : tie.Need-field-end-requires-2
-field-end-requires-2 c κs = search needs
+next-from-requires-3 : tie.Need-next-from-requires-3
+next-from-requires-3 c κs = search needs
 
-add-field-end-2 : tie.Need-add-field-end-2
-add-field-end-2 c = omega (arith, near _ _ _ (c .field-end2 .ensures), near _ _ _ (c .before .field-end .ensures))
-
-field-end-requires-3 : tie.Need-field-end-requires-3
-field-end-requires-3 c κs = search needs
-
--- where three fields in a row end
-in-row : (p : tie.After-field-end3)
-    → InRow (now (p .before .before .before .before .before .args .line)) (p .before .before .field-end .result) (p .before .field-end2 .result)
-    (p .field-end3 .result)
-in-row p = record {
+-- where the second, third and fourth field begin
+begin : (p : tie.After-next-from3)
+    → Begin (now (p .before .before .before .before .before .args .line)) (p .before .before .next-from .result) (p .before .next-from2 .result)
+    (p .next-from3 .result)
+begin p = record {
   short = omega arith;
-  one = p .before .before .field-end .ensures;
-  two = p .before .field-end2 .ensures;
-  three = p .field-end3 .ensures;
+  second = p .before .before .next-from .ensures;
+  third = p .before .next-from2 .ensures;
+  fourth = p .next-from3 .ensures;
 }
 
 returns-2 : tie.Need-returns-2
 unfolding Parted
-returns-2 c = under (in-row (c .before)) (omega arith)
+returns-2 c = no-fourth (begin (c .before)) (omega arith)
 
-add-field-end-3 : tie.Need-add-field-end-3
-add-field-end-3 c = search needs
-
-field-end-requires-4 : tie.Need-field-end-requires-4
-field-end-requires-4 c κs = search needs
+end-from-requires : tie.Need-end-from-requires
+end-from-requires c κs = search needs
 
 returns-3 : tie.Need-returns-3
 unfolding Parted
-returns-3 c = over (in-row (c .before .before .before)) (omega arith) (omega arith)
+returns-3 c =
+    let at = begin (c .before .before .before) in
+    over (spaces-before at (omega arith)) (omega (arith, each-ends at (omega arith))) (omega (arith, fourth-end at (omega arith), c .before .end-from .ensures))
+
+sub-t5 : tie.Need-sub-t5
+sub-t5 c = omega (arith, each-ends (begin (c .before .before .before)) (omega arith))
+
+sub-t7 : tie.Need-sub-t7
+sub-t7 c = omega (arith, each-ends (begin (c .before .before .before)) (omega arith))
+
+sub-t8 : tie.Need-sub-t8
+sub-t8 c = omega (arith, each-ends (begin (c .before .before .before)) (omega arith))
 
 returns-4 : tie.Need-returns-4
 unfolding Parted
 returns-4 c =
-    let row = in-row (c .before .before .before) in
-    record { one-two = apart row .0; two-three = apart row .1; within = omega arith; parts = four row (omega arith) (omega arith) }
+    let at = begin (c .before .before .before) in
+    let row = spaces-before at (omega arith) in
+    let inside = each-ends at (omega arith) in
+    record {
+      one-two = apart row .0;
+      two-three = apart row .1;
+      within = omega (arith, inside);
+      parts = four row (omega (arith, inside)) (omega (arith, fourth-end at (omega arith), c .before .end-from .ensures));
+    }
 
 pub cut-spec : {M : Type 1} → statement M
 cut-spec =
     tie.close
     (tie.spec
     returns
-    field-end-requires
-    add-field-end
-    field-end-requires-2
-    add-field-end-2
-    field-end-requires-3
+    next-from-requires
+    next-from-requires-2
+    next-from-requires-3
     returns-2
-    add-field-end-3
-    field-end-requires-4
+    end-from-requires
     returns-3
+    sub-t5
+    sub-t7
+    sub-t8
     returns-4)
