@@ -8,3 +8,4 @@ mod Written
 mod Feeding
 mod Finishing
 pub mod Laws
+mod Examples

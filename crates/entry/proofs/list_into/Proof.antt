@@ -126,7 +126,7 @@ returns c =
     let ended = c .before .before .before .before .before .before .before .before in
     let at = ended .before .before .before .before .before in
     let put = at .before .before .before .before .before .before .before .before .before .before .put-heading in
-    running-ends _ _ _ _ _ _ _ _ _ (at .loop .inv) _ _ _ _ _ (ended .before .before .before .before .loop-test .left) (at .before .before .before .before .before .before .put-bytes .ensures .1)
+    running-ends _ _ _ _ _ _ _ _ _ (at .loop .inv) _ _ _ _ (ended .finish .result) (ended .before .before .before .before .loop-test .left) (at .before .before .before .before .before .before .put-bytes .ensures .1)
     (heading-put _ _ _ refl (put .ensures .0) (put .ensures .1) .1) (ended .finish .ensures .0)
     (omega (arith, ended .finish .ensures .1 .0, ended .finish .kept .1 .1 .1 .0, at .loop .inv .scratch-long)) (c .before .before .put-bytes3 .ensures .1)
 

@@ -82,7 +82,7 @@ loop-again-2 c =
     feeding-skips _ _ _ _ _ _ _ _ _ _ _ (c .before .before .before .before .loop .inv) (c .before .before .before .loop-test .taken) (c .if2 .left)
 
 array-write-line : tie.Need-array-write-line Inv-loop μ-loop
-array-write-line c = c .if3 .taken
+array-write-line c = omega (arith, c .if3 .taken)
 
 add-length : tie.Need-add-length Inv-loop μ-loop
 add-length c = search needs
@@ -92,7 +92,7 @@ loop-less-3 c = omega (arith, c .before .before .before .loop-test .taken)
 
 loop-again-3 : tie.Need-loop-again-3 Inv-loop μ-loop
 loop-again-3 c =
-    feeding-keeps _ _ _ _ _ _ _ _ _ _ _ (c .before .before .before .before .loop .inv) (c .before .before .before .loop-test .taken) (c .before .if1 .left) (c .if3 .taken)
+    feeding-keeps _ _ _ _ _ _ _ _ _ _ _ (c .before .before .before .before .loop .inv) (c .before .before .before .loop-test .taken) (c .before .if1 .left) (omega (arith, c .if3 .taken))
 
 loop-less-4 : tie.Need-loop-less-4 Inv-loop μ-loop
 loop-less-4 c = omega (arith, c .before .before .before .loop-test .taken)
