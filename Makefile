@@ -1,6 +1,6 @@
 # Two commands: `make run` runs the main job, `make test` is the whole test.
 
-.PHONY: run test lib host fuzz guards bench clean
+.PHONY: run test lib host fuzz soak guards bench clean
 
 # proves and builds `cards` (minutes the first time, nothing after that) and runs it on case A of document 01
 run:
@@ -26,6 +26,10 @@ host: lib
 # more of the comparisons: make fuzz SEED=7 COUNT=100000
 fuzz:
 	@tests/fuzz.sh $(SEED) $(COUNT)
+
+# a longer look at the built programs, outside the gate: make soak SEED=7
+soak:
+	@tests/soak.sh $(SEED)
 
 # the longer list of must-fail edits, outside the gate
 guards:
