@@ -8,4 +8,5 @@ mod Written
 mod Feeding
 mod Finishing
 pub mod Laws
+pub mod Bounds
 mod Examples

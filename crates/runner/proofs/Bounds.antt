@@ -1,0 +1,68 @@
+-- How many bytes are always enough for a listing: 18, and 29 for each line of the script. Assumes nothing.
+use mathlib.Core.Path.{_≡_, refl, sym, subst}
+use mathlib.Core.Bool.{Bool, true, false, cond}
+use mathlib.Core.List.{List, [], _∷_, _++_}
+use Prim.Native.Nat.{ℕ, zero, suc, _+_, _*_, _/_, _%_, _^_, _≤_, _<_}
+use native.Mathlib.Omega.{arith}
+use lib.Dec.{ltb}
+use lib.ListN.{length, length-append}
+use borrow.Author.Tests.{ltb-false, lt-ltb}
+use Rattle.decimal.specs.Spelling.{spelling, spellingIn, glyph}
+use Rattle.machine.specs.Rule.{World}
+use Rattle.machine.specs.declared.Answer.{Answer}
+use Rattle.machine.specs.declared.Answer.the-variants.{Refused}
+use Rattle.script.specs.declared.Columns.{Columns}
+use Rattle.script.specs.declared.Names.{Names}
+use Rattle.script.specs.declared.Names.the-variants as Names
+use Rattle.script.specs.Pieces.{lines}
+use Rattle.script.specs.Line.{names, spells}
+use Rattle.listing.specs.Text.{line, said, word, value}
+use Rattle.listing.proofs.Laws.{word-short, value-short}
+use Rattle.runner.specs.Listing.{nothing, answered, mostLines, listed, named, body, listing}
+
+-- a number below 10 to the power of k has at most k digits, for k from 1 on
+few-digits : (k p n : ℕ) → n < 10 ^ suc k → length (spellingIn p n) ≤ suc k
+unfolding spellingIn
+few-digits k zero n h = omega arith
+few-digits zero (suc p) n h = rw (lt-ltb n 10 (omega (arith, h))) (omega arith)
+few-digits (suc k) (suc p) n h = go (ltb n 10) (λ e. few-digits k p (n / 10) e)
+  where
+    go : (b : Bool) → (n / 10 < 10 ^ suc k → length (spellingIn p (n / 10)) ≤ suc k)
+        → length (cond b (glyph n ∷ []) (spellingIn p (n / 10) ++ (glyph (n % 10) ∷ []))) ≤ suc (suc k)
+    go true rest = omega arith
+    go false rest = simp length-append (omega (arith, rest (omega (arith, h))))
+
+-- a line number has at most 7 digits, a word 9 bytes and a value 10
+line-bytes : (n : ℕ) (a : Answer) → n ≤ mostLines + 1 → length (line n a) ≤ 29
+unfolding line said spelling
+line-bytes n a h = simp length-append (omega (arith, few-digits 6 10 n (omega (arith, h)), word-short a, value-short a))
+
+listed-bytes : (at : Columns) (w : World) (n : ℕ) (ls : List (List ℕ)) → n ≤ mostLines + 1 → length (listed at w n ls) ≤ 29 * length ls
+unfolding listed
+listed-bytes at w n [] h = omega arith
+listed-bytes at w n (l ∷ ls) h =
+    go (ltb mostLines n) refl (λ few. listed-bytes at (answered w (spells at l) .world) (n + 1) ls (omega (arith, few)))
+  where
+    go : (b : Bool) → ltb mostLines n ≡ b
+        → (n ≤ mostLines → length (listed at (answered w (spells at l) .world) (n + 1) ls) ≤ 29 * length ls)
+        → length
+        (cond b (line n (Refused 11)) (line n (answered w (spells at l) .answer) ++ listed at (answered w (spells at l) .world) (n + 1) ls))
+        ≤ 29 * suc (length ls)
+    go true e rest = omega (arith, line-bytes n (Refused 11) h)
+    go false e rest =
+        simp length-append
+        (omega (arith, line-bytes n (answered w (spells at l) .answer) h, rest (ltb-false mostLines n e)))
+
+body-bytes : (ls : List (List ℕ)) (k : ℕ) → 1 ≤ k → length ls ≤ k → length (body ls) ≤ 29 * k
+unfolding body
+body-bytes [] k some h = omega (arith, some, line-bytes 1 (Refused 11) (omega arith))
+body-bytes (l ∷ ls) k some h = go (names l)
+  where
+    go : (x : Names) → length (named x ls) ≤ 29 * k
+    go (Names.Order at) = unfold named in omega (arith, h, listed-bytes at nothing 2 ls (omega arith))
+    go Names.Malformed = unfold named in omega (arith, some, line-bytes 1 (Refused 11) (omega arith))
+
+-- for a script of at most k lines, an empty one counted as one line, 18 + 29 × k bytes are enough
+pub enough : (script : List ℕ) (k : ℕ) → 1 ≤ k → length (lines script) ≤ k → length (listing script) ≤ 18 + 29 * k
+unfolding listing
+enough script k some few = simp length-append (omega (arith, body-bytes (lines script) k some few))
