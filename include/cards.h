@@ -33,13 +33,13 @@
 extern "C" {
 #endif
 
-/* An output of so many bytes is always enough for a script of so many lines, whatever is in them: 18 bytes of heading, and for each
- * line at most 25, as in "1000000 value 4294967295\n". The tests of host/ hold it; it is not proved.
+/* An output of so many bytes is always enough for a script of so many lines, whatever is in them: 18 bytes of heading, and 29 for each
+ * line. That is proved. (No line has more than 25, as in "1000000 value 4294967295\n"; that is only tested.)
  *
  * Lines: one more than the newlines of the script is never too few; an empty script counts as one line. No line after line 1,000,001
- * is read, so 25,000,043 bytes are enough for every script. Most listings are shorter: about 12 bytes a line, and 17 where line
+ * is read, so 29,000,047 bytes are enough for every script. Most listings are shorter: about 12 bytes a line, and 17 where line
  * numbers have six digits. */
-#define CARDS_OUTPUT_ENOUGH(lines) ((size_t)18 + (size_t)25 * (size_t)(lines))
+#define CARDS_OUTPUT_ENOUGH(lines) ((size_t)18 + (size_t)29 * (size_t)(lines))
 
 /* The last line that gets an answer. */
 #define CARDS_LINES_MOST 1000001
