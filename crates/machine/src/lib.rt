@@ -93,8 +93,8 @@ pub struct Outcome {
 }
 
 // Whether there may be that many cores and cards.
-pub fn in_range(cores: u32, cards: u32) -> bool
-    ensures { λ r. ⌜ r ≡ (ltb 0 cores && leb cores 16 && ltb 0 cards && leb cards 64) ⌝ }
+pub fn in_range(cores: u32, objects: u32) -> bool
+    ensures { λ r. ⌜ r ≡ (ltb 0 cores && leb cores 16 && ltb 0 objects && leb objects 64) ⌝ }
 {
     if cores < 1 {
         return false;
@@ -102,10 +102,10 @@ pub fn in_range(cores: u32, cards: u32) -> bool
     if 16 < cores {
         return false;
     }
-    if cards < 1 {
+    if objects < 1 {
         return false;
     }
-    cards <= 64
+    objects <= 64
 }
 
 // Whether tables of these lengths fit a machine of that many cores and objects.
@@ -147,14 +147,14 @@ impl Machine {
     // A new machine, both tables zero. Refused, the tables keep every word and the record is blank: 1 cores not 1 to 16 or cards
     // not 1 to 64, 3 either table's length is wrong. Accepted, the claim about whole runs holds of every list of the other seven
     // calls that follows (specs/Claims.antt).
-    pub fn setup(cores: u32, cards: u32, committed: &mut [u32], pending: &mut [u32]) -> Outcome
-        ensures rule { λ r. ⌜ left r (now (committed .exit)) (now (pending .exit)) ≡ Rule.setup cores cards (now (committed .entry)) (now (pending .entry)) ⌝ }
+    pub fn setup(cores: u32, objects: u32, committed: &mut [u32], pending: &mut [u32]) -> Outcome
+        ensures rule { λ r. ⌜ left r (now (committed .exit)) (now (pending .exit)) ≡ Rule.setup cores objects (now (committed .entry)) (now (pending .entry)) ⌝ }
         ensures runs { λ r. ⌜ (r .answer ≡ Ready → EveryRun (lent (r .machine) (now (committed .exit)) (now (pending .exit)))) ⌝ }
-        ensures paper { λ r. ⌜ Smallest (number (r .answer)) (setupRefusals cores cards (now (committed .entry)) (now (pending .entry))) × (values (r .answer) ≡ values (Rule.setup cores cards (now (committed .entry)) (now (pending .entry)) .answer)) ⌝ }
+        ensures paper { λ r. ⌜ Smallest (number (r .answer)) (setupRefusals cores objects (now (committed .entry)) (now (pending .entry))) × (values (r .answer) ≡ values (Rule.setup cores objects (now (committed .entry)) (now (pending .entry)) .answer)) ⌝ }
     {
-        if in_range(cores, cards) {
+        if in_range(cores, objects) {
             let n = cores as u8;
-            let d = cards as u8;
+            let d = objects as u8;
             if tables_fit(n, d, committed.len(), pending.len()) {
                 clear(committed);
                 clear(pending);
@@ -205,13 +205,13 @@ impl Machine {
     // The card's pending value if this attempt wrote it, else its committed value, and the committed version; the card joins the
     // read set. A marked transaction is told that it was set back instead. 2 unsound record, 3 wrong table, 4 no such core, 5 no
     // such card, 9 none in progress. Both tables keep every word; refused, the record comes back as given.
-    pub fn read(self, core: u32, card: u32, committed: &mut [u32], pending: &mut [u32]) -> Outcome
-        ensures rule { λ r. ⌜ left r (now (committed .exit)) (now (pending .exit)) ≡ Rule.read (lent self (now (committed .entry)) (now (pending .entry))) core card ⌝ }
-        ensures paper { λ r. ⌜ Smallest (number (r .answer)) (refusals (lent self (now (committed .entry)) (now (pending .entry))) (Rule.Read core card)) × (values (r .answer) ≡ values (Rule.read (lent self (now (committed .entry)) (now (pending .entry))) core card .answer)) ⌝ }
+    pub fn read(self, core: u32, object: u32, committed: &mut [u32], pending: &mut [u32]) -> Outcome
+        ensures rule { λ r. ⌜ left r (now (committed .exit)) (now (pending .exit)) ≡ Rule.read (lent self (now (committed .entry)) (now (pending .entry))) core object ⌝ }
+        ensures paper { λ r. ⌜ Smallest (number (r .answer)) (refusals (lent self (now (committed .entry)) (now (pending .entry))) (Rule.Read core object)) × (values (r .answer) ≡ values (Rule.read (lent self (now (committed .entry)) (now (pending .entry))) core object .answer)) ⌝ }
     {
         if is_sound(self) {
             if tables_fit(self.cores, self.objects, committed.len(), pending.len()) {
-                access::read(self, core, card, committed, pending)
+                access::read(self, core, object, committed, pending)
             } else {
                 Outcome {
                     answer: Answer::Refused(3),
@@ -232,17 +232,17 @@ impl Machine {
     pub fn write(
         self,
         core: u32,
-        card: u32,
+        object: u32,
         value: u32,
         committed: &mut [u32],
         pending: &mut [u32],
     ) -> Outcome
-        ensures rule { λ r. ⌜ left r (now (committed .exit)) (now (pending .exit)) ≡ Rule.write (lent self (now (committed .entry)) (now (pending .entry))) core card value ⌝ }
-        ensures paper { λ r. ⌜ Smallest (number (r .answer)) (refusals (lent self (now (committed .entry)) (now (pending .entry))) (Rule.Write core card value)) × (values (r .answer) ≡ values (Rule.write (lent self (now (committed .entry)) (now (pending .entry))) core card value .answer)) ⌝ }
+        ensures rule { λ r. ⌜ left r (now (committed .exit)) (now (pending .exit)) ≡ Rule.write (lent self (now (committed .entry)) (now (pending .entry))) core object value ⌝ }
+        ensures paper { λ r. ⌜ Smallest (number (r .answer)) (refusals (lent self (now (committed .entry)) (now (pending .entry))) (Rule.Write core object value)) × (values (r .answer) ≡ values (Rule.write (lent self (now (committed .entry)) (now (pending .entry))) core object value .answer)) ⌝ }
     {
         if is_sound(self) {
             if tables_fit(self.cores, self.objects, committed.len(), pending.len()) {
-                access::write(self, core, card, value, committed, pending)
+                access::write(self, core, object, value, committed, pending)
             } else {
                 Outcome {
                     answer: Answer::Refused(3),

@@ -15,12 +15,12 @@ returns-2 c =
 returns-3 : tie.Need-returns-3
 returns-3 c =
     let args = c .before .before .before .args in
-    rw (lt-ltb 0 (args .cores) (omega arith), le-leb (args .cores) 16 (c .before .if2 .left), le-ltb 0 (args .cards) (omega arith)) refl
+    rw (lt-ltb 0 (args .cores) (omega arith), le-leb (args .cores) 16 (c .before .if2 .left), le-ltb 0 (args .objects) (omega arith)) refl
 
 returns-4 : tie.Need-returns-4
 returns-4 c =
     let args = c .before .before .before .args in
-    rw (lt-ltb 0 (args .cores) (omega arith), le-leb (args .cores) 16 (c .before .if2 .left), lt-ltb 0 (args .cards) (omega arith)) refl
+    rw (lt-ltb 0 (args .cores) (omega arith), le-leb (args .cores) 16 (c .before .if2 .left), lt-ltb 0 (args .objects) (omega arith)) refl
 
 pub in-range-spec : {M : Type 1} → statement M
 in-range-spec = tie.close (tie.spec returns returns-2 returns-3 returns-4)

@@ -33,9 +33,9 @@ fn slot(c: usize, objects: usize, d: usize) -> usize
 
 // The card's pending value if this attempt wrote it, else its committed value, with the committed version; the card joins the
 // read set. 4 no such core, 5 no such card, 9 no transaction in progress. Both tables keep every word.
-pub fn read(mut m: Machine, core: u32, card: u32, committed: &[u32], pending: &[u32]) -> Outcome
+pub fn read(mut m: Machine, core: u32, object: u32, committed: &[u32], pending: &[u32]) -> Outcome
     requires { ⌜ Fine (lent m (now committed) (now pending)) ⌝ }
-    ensures { λ r. ⌜ left r (now (committed .entry)) (now (pending .entry)) ≡ readRule (lent m (now (committed .entry)) (now (pending .entry))) core card ⌝ }
+    ensures { λ r. ⌜ left r (now (committed .entry)) (now (pending .entry)) ≡ readRule (lent m (now (committed .entry)) (now (pending .entry))) core object ⌝ }
 {
     if m.cores as u32 <= core {
         return Outcome {
@@ -43,14 +43,14 @@ pub fn read(mut m: Machine, core: u32, card: u32, committed: &[u32], pending: &[
             machine: m,
         };
     }
-    if m.objects as u32 <= card {
+    if m.objects as u32 <= object {
         return Outcome {
             answer: Answer::Refused(5),
             machine: m,
         };
     }
     let c = core as usize;
-    let d = card as usize;
+    let d = object as usize;
     let mut k = m.core[c];
     if k.active {
         if k.zombie {
@@ -86,13 +86,13 @@ pub fn read(mut m: Machine, core: u32, card: u32, committed: &[u32], pending: &[
 pub fn write(
     mut m: Machine,
     core: u32,
-    card: u32,
+    object: u32,
     value: u32,
     committed: &[u32],
     pending: &mut [u32],
 ) -> Outcome
     requires { ⌜ Fine (lent m (now committed) (now pending)) ⌝ }
-    ensures { λ r. ⌜ left r (now (committed .entry)) (now (pending .exit)) ≡ writeRule (lent m (now (committed .entry)) (now (pending .entry))) core card value ⌝ }
+    ensures { λ r. ⌜ left r (now (committed .entry)) (now (pending .exit)) ≡ writeRule (lent m (now (committed .entry)) (now (pending .entry))) core object value ⌝ }
 {
     if m.cores as u32 <= core {
         return Outcome {
@@ -100,14 +100,14 @@ pub fn write(
             machine: m,
         };
     }
-    if m.objects as u32 <= card {
+    if m.objects as u32 <= object {
         return Outcome {
             answer: Answer::Refused(5),
             machine: m,
         };
     }
     let c = core as usize;
-    let d = card as usize;
+    let d = object as usize;
     let mut k = m.core[c];
     if k.active {
         if k.zombie {

@@ -52,7 +52,7 @@ fn is_struck(ws: u64, k: Core) -> bool
 }
 
 // Core k with its transaction aborted and marked: empty sets and one setback more; its ticket and jobs stay.
-fn set_back(mut k: Core) -> Core
+fn abort(mut k: Core) -> Core
     requires { ⌜ k .aborts < 255 ⌝ }
     ensures { λ r. ⌜ r ≡ aborted k ⌝ }
 {
@@ -78,7 +78,7 @@ fn cores_after(mut cores: [Core; 16], n: usize, c: usize, ws: u64) -> [Core; 16]
         if e == c {
             cores[e] = without_transaction(k);
         } else if is_struck(ws, k) {
-            cores[e] = set_back(k);
+            cores[e] = abort(k);
         }
         e += 1;
     }
@@ -87,12 +87,12 @@ fn cores_after(mut cores: [Core; 16], n: usize, c: usize, ws: u64) -> [Core; 16]
 
 // Stores the pending value of each object in the write set ws as its committed value and raises its version by one; the others
 // keep both. The pending values of the core start at base, and stay. The write set holds no object past the committed table.
-fn move_cards(ws: u64, base: usize, committed: &mut [u32], pending: &[u32], versions: &mut [u32])
+fn write_back(ws: u64, base: usize, committed: &mut [u32], pending: &[u32], versions: &mut [u32])
     requires { ⌜ base + length (now committed) ≤ length (now pending) ⌝ }
     requires { ⌜ length (now committed) ≤ length (now versions) ⌝ }
     requires { ⌜ ((d : ℕ) → d < length (now versions) → has ws d ≡ true → d < length (now committed)) ⌝ }
     requires { ⌜ ((d : ℕ) → d < length (now committed) → getD (now versions) d 0 < 4294967295) ⌝ }
-    ensures cards { λ r. ⌜ now (committed .exit) ≡ changed ws (λ d v. getD (now (pending .entry)) (base + d) 0) 0 (now (committed .entry)) ⌝ }
+    ensures values { λ r. ⌜ now (committed .exit) ≡ changed ws (λ d v. getD (now (pending .entry)) (base + d) 0) 0 (now (committed .entry)) ⌝ }
     ensures raised { λ r. ⌜ now (versions .exit) ≡ changed ws (λ d v. v + 1) 0 (now (versions .entry)) ⌝ }
 {
     let mut d = 0;
@@ -121,7 +121,7 @@ fn carry_through(m: Machine, c: usize, committed: &mut [u32], pending: &[u32]) -
     let objects = m.objects as usize;
     let own = m.core[c];
     let mut versions = m.versions;
-    move_cards(own.writes, c * objects, committed, pending, &mut versions);
+    write_back(own.writes, c * objects, committed, pending, &mut versions);
     let cores = m.core;
     let core = cores_after(cores, m.cores as usize, c, own.writes);
     let commits = m.commits + 1;

@@ -28,12 +28,12 @@ in-range-requires c κs = search needs
 cast-n : tie.Need-cast-n
 cast-n c =
     let args = c .before .before .before .before .args in
-    omega (arith, few-of (args .cores) (args .cards) (sym (c .before .in-range .ensures) ∙ c .if1 .taken) .0)
+    omega (arith, few-of (args .cores) (args .objects) (sym (c .before .in-range .ensures) ∙ c .if1 .taken) .0)
 
 cast-d : tie.Need-cast-d
 cast-d c =
     let args = c .before .before .before .before .args in
-    omega (arith, few-of (args .cores) (args .cards) (sym (c .before .in-range .ensures) ∙ c .if1 .taken) .1)
+    omega (arith, few-of (args .cores) (args .objects) (sym (c .before .in-range .ensures) ∙ c .if1 .taken) .1)
 
 tables-fit-requires : tie.Need-tables-fit-requires
 tables-fit-requires c κs = search needs

@@ -16,16 +16,16 @@ mul-own c = search needs
 element-copy-out-own : tie.Need-element-copy-out-own
 element-copy-out-own c = core-place _ (c .before .before .pre .0) _ (c .before .before .pre .1 .0)
 
-mul-move-cards : tie.Need-mul-move-cards
-mul-move-cards c =
+mul-write-back : tie.Need-mul-write-back
+mul-write-back c =
     let start = c .before .before .before .before in
     omega (arith, row-within (start .args .c) (start .args .t1 .cores) (start .args .t1 .objects) (start .pre .1 .0))
 
-slice-aggregate-move-cards : tie.Need-slice-aggregate-move-cards
-slice-aggregate-move-cards c = search needs
+slice-aggregate-write-back : tie.Need-slice-aggregate-write-back
+slice-aggregate-write-back c = search needs
 
-move-cards-requires : tie.Need-move-cards-requires
-move-cards-requires c κs =
+write-back-requires : tie.Need-write-back-requires
+write-back-requires c κs =
     let start = c .before .before .before .before .before .before in
     let m = start .args .t1 in (
       omega (arith, row-within (start .args .c) (m .cores) (m .objects) (start .pre .1 .0)),
@@ -54,7 +54,7 @@ same-length c = search needs
 returns : tie.Need-returns
 unfolding through
 returns c =
-    let moved = c .before .before .before .before .before .move-cards .ensures in
+    let moved = c .before .before .before .before .before .write-back .ensures in
     rw (c .cores-after .ensures, moved .1, moved .0)
 
 pub carry-through-spec : {M : Type 1} → statement M
@@ -64,9 +64,9 @@ carry-through-spec =
     cast-objects
     mul-own
     element-copy-out-own
-    mul-move-cards
-    slice-aggregate-move-cards
-    move-cards-requires
+    mul-write-back
+    slice-aggregate-write-back
+    write-back-requires
     cast-cores-after
     cores-after-requires
     add-commits

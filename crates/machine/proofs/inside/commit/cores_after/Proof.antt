@@ -39,8 +39,8 @@ array-set-from-cores c = search needs
 is-struck-requires : tie.Need-is-struck-requires Inv-loop μ-loop
 is-struck-requires c κs = search needs
 
-set-back-requires : tie.Need-set-back-requires Inv-loop μ-loop
-set-back-requires c κs =
+abort-requires : tie.Need-abort-requires Inv-loop μ-loop
+abort-requires c κs =
     let start = c .before .before .before .before .before .before in
     let at = c .before .before .before .before .before .loop in
     let long : length (start .args .t1) ≡ 16 = search needs in
@@ -97,7 +97,7 @@ cores-after-spec =
     mul-cores
     array-set-from-cores
     is-struck-requires
-    set-back-requires
+    abort-requires
     mul-cores-2
     array-set-from-cores-2
     add-e

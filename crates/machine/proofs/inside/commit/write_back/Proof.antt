@@ -1,4 +1,4 @@
--- `machine::inside::commit::move_cards` meets its contract. After the turn of object d, the committed values and the versions of
+-- `machine::inside::commit::write_back` meets its contract. After the turn of object d, the committed values and the versions of
 -- the first d + 1 are the new ones. Assumes nothing.
 use mathlib.Core.Path.{refl, sym, _∙_}
 use mathlib.Core.Logic.{⊎-elim}
@@ -9,8 +9,8 @@ use borrow.Author.Needs.{needs}
 use Rattle.machine.specs.Rule.{changed}
 use Rattle.machine.proofs.Front.{Stands}
 use Rattle.machine.proofs.CommitLaws.{changed-next, changed-stored, changed-kept, changed-done}
-use Rattle.machine.proofs.inside.commit.move_cards.Statement.{statement}
-use Rattle.machine.proofs.inside.commit.move_cards.Tie as tie
+use Rattle.machine.proofs.inside.commit.write_back.Statement.{statement}
+use Rattle.machine.proofs.inside.commit.write_back.Tie as tie
 
 abbrev Inv-loop : tie.InvT-loop
 Inv-loop ws base committed₀ pending versions₀ d₀ committed versions d =
@@ -104,8 +104,8 @@ returns c =
           (λ d l p. omega (arith, start .pre .1 .1 .0 d l p)),
     )
 
-pub move-cards-spec : {M : Type 1} → statement M
-move-cards-spec =
+pub write-back-spec : {M : Type 1} → statement M
+write-back-spec =
     tie.close
     (tie.spec
     Inv-loop
