@@ -6,6 +6,7 @@
 run:
 	@tests/tool.sh rt
 	@mkdir -p build
+	@[ -x target/bin/cards ] || echo "make run: proving and building cards first, which takes some minutes" >&2
 	@rt check cards > build/run.log 2>&1 || { tail -20 build/run.log; exit 1; }
 	@target/bin/cards < examples/case-a.script
 
