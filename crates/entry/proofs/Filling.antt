@@ -14,7 +14,7 @@ use Rattle.listing.proofs.Laws.{fitting-whole, put-whole, placed-whole, placed-
 use Rattle.runner.specs.declared.Reading.{Reading}
 use Rattle.runner.specs.Listing.{listing, body, mostLines}
 use Rattle.runner.specs.Kept.{rest, Fit}
-use Rattle.runner.proofs.Laws.{listing-short}
+use Rattle.runner.proofs.Bounds.{listing-short}
 
 -- `text` is listed, `total` bytes of it; it is the output's first part, if the output has room for the whole listing, and the bytes after
 -- it keep what they held

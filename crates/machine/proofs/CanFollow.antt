@@ -1,18 +1,18 @@
 -- The rule can be kept: for every world and call there is an answer and a next world that follow it. In particular it never says
 -- waits with nobody ahead. Assumes nothing.
 use mathlib.Core.Path.{_≡_, refl, sym, ap, _∙_}
-use mathlib.Core.Bool.{Bool, true, false, cond, not, true≢false}
+use mathlib.Core.Bool.{Bool, true, false, cond, not, _||_, true≢false}
 use mathlib.Core.List.{List, [], _∷_}
 use Prim.Native.Nat.{ℕ, zero, suc}
 use native.Mathlib.Omega.{arith}
 use lib.Dec.{eqb}
 use Rattle.objset.specs.Objset.{some}
-use Rattle.objset.proofs.Laws.{some-one}
+use Rattle.machine.specs.declared.Machine.{Machine}
 use Rattle.machine.specs.declared.Answer.{Answer}
 use Rattle.machine.specs.declared.Answer.the-variants.{Running, Queued, Waits}
 use Rattle.machine.specs.Answers.{named}
 use Rattle.machine.specs.Record.{coreAt, running}
-use Rattle.machine.specs.Rule.{World, Result, Call, Release, Begin, Read, Write, Commit, GiveUp, Finish, coreOf, rule, unlessLent, withJob, told, waiting, through, released, finished, valued, contender, blocked, commitRefusal, commit}
+use Rattle.machine.specs.Rule.{World, Result, Call, Release, Begin, Read, Write, Commit, GiveUp, Finish, coreOf, rule, unlessLent, withJob, told, waiting, through, released, finished, valued, contender, blocked, leastOf, firstAhead, commitRefusal, commit}
 use Rattle.machine.specs.Follows.{Follows}
 use Rattle.machine.proofs.Case.{Case, is-refused, is-released, is-begun, is-told, is-valued, is-written, is-waiting, is-through, is-ended, is-finished, release-case, begin-case, read-case, write-case, commit-case, give-up-case, finish-case}
 
@@ -36,19 +36,12 @@ waits-only (is-through ok z free) e p = let z : _≡_ {A = ℕ} 0 1 = cc in absu
 waits-only (is-ended ok going) e p = let z : _≡_ {A = ℕ} 0 1 = cc in absurd (omega arith)
 waits-only (is-finished ok job idle) e p = let z : _≡_ {A = ℕ} 0 1 = cc in absurd (omega arith)
 
--- an answer and a world of the rule whose core, where it is waits, contends
-Kept : World → Call → Type 0
-Kept w call = (a : Answer) × (w′ : World) × Follows w call a w′
-
 -- a call whose rule names no core
-plain : (w : World) (call : Call) → ((e : ℕ) → rule e w call ≡ rule 0 w call) → Case w call (rule 0 w call .answer) (rule 0 w call .world) → Kept w call
-unfolding Kept
-plain w call same c =
-    let again = sym (same (named (rule 0 w call .answer))) in (
-      rule 0 w call .answer,
-      rule 0 w call .world,
-      record { answer-is = ap (λ (r : Result). r .answer) again; world-is = ap (λ (r : Result). r .world) again; waits-for = waits-only c },
-    )
+plain : (e : ℕ) (w : World) (call : Call) → ((b : ℕ) → rule b w call ≡ rule e w call) → Case w call (rule e w call .answer) (rule e w call .world)
+    → Follows w call (rule e w call .answer) (rule e w call .world)
+plain e w call same c =
+    let again = sym (same (named (rule e w call .answer))) in
+    record { answer-is = ap (λ (r : Result). r .answer) again; world-is = ap (λ (r : Result). r .world) again; waits-for = waits-only c }
 
 -- the rule of commit, past its refusals; where the core named by the answer is put in again, nothing changes
 again : (r : ℕ) (z b : Bool) (e : ℕ) (w : World) (c : ℕ)
@@ -61,35 +54,57 @@ again zero false false e w c = refl
 again (suc r) z b e w c = refl
 
 -- one that is not blocked is not answered waits
-unblocked : (r : ℕ) (z : Bool) (w : World) (c : ℕ) → unlessLent r w (cond z (told w c) (through w c)) .answer ≡ Waits 0 → ⊥
+unblocked : (r : ℕ) (z : Bool) (w : World) (c e : ℕ) → unlessLent r w (cond z (told w c) (through w c)) .answer ≡ Waits e → ⊥
 unfolding unlessLent told through
-unblocked zero true w c p = let z : _≡_ {A = ℕ} 0 1 = cc in omega arith
-unblocked zero false w c p = let z : _≡_ {A = ℕ} 0 1 = cc in omega arith
-unblocked (suc n) z w c p = let z : _≡_ {A = ℕ} 0 1 = cc in omega arith
+unblocked zero true w c e p = let z : _≡_ {A = ℕ} 0 1 = cc in omega arith
+unblocked zero false w c e p = let z : _≡_ {A = ℕ} 0 1 = cc in omega arith
+unblocked (suc n) z w c e p = let z : _≡_ {A = ℕ} 0 1 = cc in omega arith
 
--- a commit: where it is blocked, one that contends can be named
-committing : (w : World) (c : ℕ) → Kept w (Commit c)
-unfolding Kept rule commit blocked
-committing w c = go (blocked (w .machine) c) refl
+-- a commit that is told a core which contends, if it is blocked
+committing : (e : ℕ) (w : World) (c : ℕ) → (blocked (w .machine) c ≡ true → contender (w .machine) c e ≡ true)
+    → Follows w (Commit c) (rule e w (Commit c) .answer) (rule e w (Commit c) .world)
+unfolding rule commit
+committing e w c ahead =
+    let same = again (commitRefusal w c) (coreAt (w .machine) c .zombie) (blocked (w .machine) c) e w c in
+    record {
+      answer-is = ap (λ (r : Result). r .answer) same;
+      world-is = ap (λ (r : Result). r .world) same;
+      waits-for = waits-only (commit-case w c e (go (blocked (w .machine) c) refl));
+    }
   where
-    kept : (e : ℕ) → (commit e w c .answer ≡ Waits e → contender (w .machine) c e ≡ true) → Kept w (Commit c)
-    kept e waits =
-        let same = again (commitRefusal w c) (coreAt (w .machine) c .zombie) (blocked (w .machine) c) e w c in (
-          commit e w c .answer,
-          commit e w c .world,
-          record { answer-is = ap (λ (r : Result). r .answer) same; world-is = ap (λ (r : Result). r .world) same; waits-for = waits-only (commit-case w c e waits) },
-        )
+    go : (b : Bool) → blocked (w .machine) c ≡ b → commit e w c .answer ≡ Waits e → contender (w .machine) c e ≡ true
+    go true b p = ahead b
+    go false b p = absurd (unblocked (commitRefusal w c) (coreAt (w .machine) c .zombie) w c e (rw b at p))
 
-    go : (b : Bool) → blocked (w .machine) c ≡ b → Kept w (Commit c)
-    go true b = let one = some-one 16 (contender (w .machine) c) b in kept (one .0) (λ p. one .2)
-    go false b = kept 0 (λ p. absurd (unblocked (commitRefusal w c) (coreAt (w .machine) c .zombie) w c (rw b at p)))
+-- the rule's answer and world follow it, if the core that it is told contends wherever one does
+pub rule-follows : (e : ℕ) (w : World) (call : Call) → (blocked (w .machine) (coreOf call) ≡ true → contender (w .machine) (coreOf call) e ≡ true)
+    → Follows w call (rule e w call .answer) (rule e w call .world)
+unfolding rule
+rule-follows e w (Release c number deadline) ahead = plain e w (Release c number deadline) (λ b. refl) (release-case w c number deadline)
+rule-follows e w (Begin c) ahead = plain e w (Begin c) (λ b. refl) (begin-case w c)
+rule-follows e w (Read c d) ahead = plain e w (Read c d) (λ b. refl) (read-case w c d)
+rule-follows e w (Write c d v) ahead = plain e w (Write c d v) (λ b. refl) (write-case w c d v)
+rule-follows e w (Commit c) ahead = committing e w c ahead
+rule-follows e w (GiveUp c) ahead = plain e w (GiveUp c) (λ b. refl) (give-up-case w c)
+rule-follows e w (Finish c) ahead = plain e w (Finish c) (λ b. refl) (finish-case w c)
+
+least-passes : (n : ℕ) (f : ℕ → Bool) → some n f ≡ true → f (leastOf n f) ≡ true
+unfolding some leastOf
+least-passes zero f e = absurd (true≢false (sym e))
+least-passes (suc n) f e = go (some n f) refl (f n) refl e (λ s. least-passes n f s)
+  where
+    go : (b : Bool) → some n f ≡ b → (q : Bool) → f n ≡ q → q || b ≡ true → (some n f ≡ true → f (leastOf n f) ≡ true)
+        → f (cond b (leastOf n f) n) ≡ true
+    go true s q p h more = more s
+    go false s true p h more = p
+    go false s false p h more = absurd (true≢false (sym h))
+
+-- the core that a blocked commit names first contends
+pub first-contends : (m : Machine) (c : ℕ) → blocked m c ≡ true → contender m c (firstAhead m c) ≡ true
+unfolding blocked
+first-contends m c e = least-passes 16 (contender m c) e
 
 pub can-follow : (w : World) (call : Call) → (a : Answer) × (w′ : World) × Follows w call a w′
-unfolding Kept rule
-can-follow w (Release c number deadline) = plain w (Release c number deadline) (λ e. refl) (release-case w c number deadline)
-can-follow w (Begin c) = plain w (Begin c) (λ e. refl) (begin-case w c)
-can-follow w (Read c d) = plain w (Read c d) (λ e. refl) (read-case w c d)
-can-follow w (Write c d v) = plain w (Write c d v) (λ e. refl) (write-case w c d v)
-can-follow w (Commit c) = committing w c
-can-follow w (GiveUp c) = plain w (GiveUp c) (λ e. refl) (give-up-case w c)
-can-follow w (Finish c) = plain w (Finish c) (λ e. refl) (finish-case w c)
+can-follow w call =
+    let e = firstAhead (w .machine) (coreOf call) in
+    (rule e w call .answer, rule e w call .world, rule-follows e w call (first-contends (w .machine) (coreOf call)))

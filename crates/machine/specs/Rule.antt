@@ -252,6 +252,15 @@ contender m c e = coreAt m e .active && ltb (coreAt m e .ticket) (coreAt m c .ti
 unfoldable pub blocked : Machine → ℕ → Bool
 blocked m c = some 16 (contender m c)
 
+-- the least number below n that passes f, if one does
+unfoldable pub leastOf : ℕ → (ℕ → Bool) → ℕ
+leastOf zero f = 0
+leastOf (suc n) f = cond (some n f) (leastOf n f) n
+
+-- a core that waits may name, where the commit is blocked: the least
+abbrev pub firstAhead : Machine → ℕ → ℕ
+firstAhead m c = leastOf 16 (contender m c)
+
 -- set back: the sets are emptied, the setbacks rise by one, it is marked; it keeps its ticket
 abbrev pub aborted : Core → Core
 aborted k = attempting k (k .ticket) (k .aborts + 1) true 0 0

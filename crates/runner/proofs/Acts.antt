@@ -24,39 +24,39 @@ use Rattle.runner.specs.Kept.{held, Held}
 abbrev Alike : Result → Result → Type 0
 Alike a b = (said (a .answer) ≡ said (b .answer)) × (a .world ≡ b .world)
 
-waiting-alike : (e : ℕ) (w : World) → Alike (waiting w e) (waiting w 0)
+waiting-alike : (e b : ℕ) (w : World) → Alike (waiting w e) (waiting w b)
 unfolding said
-waiting-alike e w = (refl, refl)
+waiting-alike e b w = (refl, refl)
 
-commit-alike : (e : ℕ) (w : World) (c : ℕ) → Alike (commit e w c) (commit 0 w c)
+commit-alike : (e b : ℕ) (w : World) (c : ℕ) → Alike (commit e w c) (commit b w c)
 unfolding commit
-commit-alike e w c = refused (commitRefusal w c) (coreAt (w .machine) c .zombie) (blocked (w .machine) c)
+commit-alike e b w c = refused (commitRefusal w c) (coreAt (w .machine) c .zombie) (blocked (w .machine) c)
   where
-    kept : (b : Bool) → Alike (cond b (waiting w e) (through w c)) (cond b (waiting w 0) (through w c))
-    kept true = waiting-alike e w
+    kept : (held : Bool) → Alike (cond held (waiting w e) (through w c)) (cond held (waiting w b) (through w c))
+    kept true = waiting-alike e b w
     kept false = (refl, refl)
 
-    marked : (z b : Bool)
-        → Alike (cond z (told w c) (cond b (waiting w e) (through w c))) (cond z (told w c) (cond b (waiting w 0) (through w c)))
-    marked true b = (refl, refl)
-    marked false b = kept b
+    marked : (z held : Bool)
+        → Alike (cond z (told w c) (cond held (waiting w e) (through w c))) (cond z (told w c) (cond held (waiting w b) (through w c)))
+    marked true held = (refl, refl)
+    marked false held = kept held
 
-    refused : (n : ℕ) (z b : Bool)
-        → Alike (unlessLent n w (cond z (told w c) (cond b (waiting w e) (through w c))))
-        (unlessLent n w (cond z (told w c) (cond b (waiting w 0) (through w c))))
-    refused zero z b = unfold unlessLent in marked z b
-    refused (suc n) z b = unfold unlessLent in (refl, refl)
+    refused : (n : ℕ) (z held : Bool)
+        → Alike (unlessLent n w (cond z (told w c) (cond held (waiting w e) (through w c))))
+        (unlessLent n w (cond z (told w c) (cond held (waiting w b) (through w c))))
+    refused zero z held = unfold unlessLent in marked z held
+    refused (suc n) z held = unfold unlessLent in (refl, refl)
 
 -- the core that waits names is not shown
-rule-alike : (e : ℕ) (w : World) (call : Call) → Alike (rule e w call) (rule 0 w call)
+rule-alike : (e b : ℕ) (w : World) (call : Call) → Alike (rule e w call) (rule b w call)
 unfolding rule
-rule-alike e w (Release c number deadline) = (refl, refl)
-rule-alike e w (Begin c) = (refl, refl)
-rule-alike e w (Read c d) = (refl, refl)
-rule-alike e w (Write c d v) = (refl, refl)
-rule-alike e w (Commit c) = commit-alike e w c
-rule-alike e w (GiveUp c) = (refl, refl)
-rule-alike e w (Finish c) = (refl, refl)
+rule-alike e b w (Release c number deadline) = (refl, refl)
+rule-alike e b w (Begin c) = (refl, refl)
+rule-alike e b w (Read c d) = (refl, refl)
+rule-alike e b w (Write c d v) = (refl, refl)
+rule-alike e b w (Commit c) = commit-alike e b w c
+rule-alike e b w (GiveUp c) = (refl, refl)
+rule-alike e b w (Finish c) = (refl, refl)
 
 -- the words that a machine holds of tables that begin with its own
 pub front-held : (m : Machine) (cs ps more more′ : List ℕ) → Good (lent m cs ps) → held m (cs ++ more) (ps ++ more′) ≡ lent m cs ps
@@ -69,13 +69,13 @@ abbrev pub Done : World → Result → Outcome → List ℕ → List ℕ → Typ
 Done w expected r cs ps =
     (said (r .answer) ≡ said (expected .answer)) × ((held (r .machine) cs ps ≡ expected .world) × Held (r .machine) cs ps)
 
-module _ (m : Machine) (cs ps : List ℕ) (g : Good (held m cs ps)) (cl : length cs ≡ 64) (pl : length ps ≡ 1024) (call : Call) (r : Outcome) where
+module _ (m : Machine) (cs ps : List ℕ) (g : Good (held m cs ps)) (cl : length cs ≡ 64) (pl : length ps ≡ 1024) (call : Call) (r : Outcome) (e : ℕ) where
   -- the call was lent the first words, and left them as cs′ and ps′
   pub acted : (cs′ ps′ : List ℕ) → length cs′ ≡ length (take (m .objects) cs) → length ps′ ≡ length (take (m .cores * m .objects) ps)
       → Follows (held m cs ps) call (r .answer) (lent (r .machine) cs′ ps′)
-      → Done (held m cs ps) (rule 0 (held m cs ps) call) r (cs′ ++ drop (m .objects) cs) (ps′ ++ drop (m .cores * m .objects) ps)
+      → Done (held m cs ps) (rule e (held m cs ps) call) r (cs′ ++ drop (m .objects) cs) (ps′ ++ drop (m .cores * m .objects) ps)
   acted cs′ ps′ cl′ pl′ f =
-      let alike = rule-alike (named (r .answer)) (held m cs ps) call in
+      let alike = rule-alike (named (r .answer)) e (held m cs ps) call in
       let g′ = keeps-good (case-of f) g in
       let front = front-held (r .machine) cs′ ps′ (drop (m .objects) cs) (drop (m .cores * m .objects) ps) g′ in (
         ap said (f .answer-is) ∙ alike .0,
@@ -88,11 +88,3 @@ module _ (m : Machine) (cs ps : List ℕ) (g : Good (held m cs ps)) (cl : length
           },
         ),
       )
-
-  -- the call was lent no table
-  pub acted-alone : Follows (held m cs ps) call (r .answer) (lent (r .machine) (take (m .objects) cs) (take (m .cores * m .objects) ps))
-      → Done (held m cs ps) (rule 0 (held m cs ps) call) r cs ps
-  acted-alone f =
-      subst (λ (x : List ℕ). Done (held m cs ps) (rule 0 (held m cs ps) call) r x ps) (take-append-drop (m .objects) cs)
-      (subst (λ (y : List ℕ). Done (held m cs ps) (rule 0 (held m cs ps) call) r (take (m .objects) cs ++ drop (m .objects) cs) y)
-      (take-append-drop (m .cores * m .objects) ps) (acted (take (m .objects) cs) (take (m .cores * m .objects) ps) refl refl f))

@@ -2,7 +2,7 @@
 use mathlib.Core.Path.{_≡_, refl, sym, subst}
 use mathlib.Core.Bool.{Bool, true, false, cond}
 use mathlib.Core.List.{List, [], _∷_, _++_}
-use Prim.Native.Nat.{ℕ, zero, suc, _+_, _*_, _/_, _%_, _^_, _≤_, _<_}
+use Prim.Native.Nat.{ℕ, zero, suc, _+_, _-_, _*_, _/_, _%_, _^_, _≤_, _<_}
 use native.Mathlib.Omega.{arith}
 use lib.Dec.{ltb}
 use lib.ListN.{length, length-append}
@@ -37,32 +37,46 @@ line-bytes : (n : ℕ) (a : Answer) → n ≤ mostLines + 1 → length (line n a
 unfolding line said spelling
 line-bytes n a h = simp length-append (omega (arith, few-digits 6 10 n (omega (arith, h)), word-short a, value-short a))
 
-listed-bytes : (at : Columns) (w : World) (n : ℕ) (ls : List (List ℕ)) → n ≤ mostLines + 1 → length (listed at w n ls) ≤ 29 * length ls
+-- at most 29 bytes for each line, of those that there are and of those that are read from line n on
+listed-bytes : (at : Columns) (w : World) (n : ℕ) (ls : List (List ℕ)) → n ≤ mostLines + 1
+    → (length (listed at w n ls) ≤ 29 * length ls) × (length (listed at w n ls) ≤ 29 * (mostLines + 2 - n))
 unfolding listed
-listed-bytes at w n [] h = omega arith
+listed-bytes at w n [] h = (omega arith, omega arith)
 listed-bytes at w n (l ∷ ls) h =
     go (ltb mostLines n) refl (λ few. listed-bytes at (answered w (spells at l) .world) (n + 1) ls (omega (arith, few)))
   where
-    go : (b : Bool) → ltb mostLines n ≡ b
-        → (n ≤ mostLines → length (listed at (answered w (spells at l) .world) (n + 1) ls) ≤ 29 * length ls)
-        → length
-        (cond b (line n (Refused 11)) (line n (answered w (spells at l) .answer) ++ listed at (answered w (spells at l) .world) (n + 1) ls))
-        ≤ 29 * suc (length ls)
-    go true e rest = omega (arith, line-bytes n (Refused 11) h)
-    go false e rest =
-        simp length-append
-        (omega (arith, line-bytes n (answered w (spells at l) .answer) h, rest (ltb-false mostLines n e)))
+    more : List ℕ
+    more = listed at (answered w (spells at l) .world) (n + 1) ls
 
-body-bytes : (ls : List (List ℕ)) (k : ℕ) → 1 ≤ k → length ls ≤ k → length (body ls) ≤ 29 * k
+    go : (b : Bool) → ltb mostLines n ≡ b
+        → (n ≤ mostLines → (length more ≤ 29 * length ls) × (length more ≤ 29 * (mostLines + 2 - (n + 1))))
+        → (length (cond b (line n (Refused 11)) (line n (answered w (spells at l) .answer) ++ more)) ≤ 29 * suc (length ls))
+        × (length (cond b (line n (Refused 11)) (line n (answered w (spells at l) .answer) ++ more)) ≤ 29 * (mostLines + 2 - n))
+    go true e rest =
+        let one = line-bytes n (Refused 11) h in
+        (omega (arith, one), omega (arith, h, one))
+    go false e rest =
+        let few = ltb-false mostLines n e in
+        let one = line-bytes n (answered w (spells at l) .answer) h in
+        simp length-append ((omega (arith, one, rest few .0), omega (arith, few, one, rest few .1)))
+
+body-bytes : (ls : List (List ℕ)) (k : ℕ) → 1 ≤ k → length ls ≤ k → (length (body ls) ≤ 29 * k) × (length (body ls) ≤ 29 * (mostLines + 1))
 unfolding body
-body-bytes [] k some h = omega (arith, some, line-bytes 1 (Refused 11) (omega arith))
+body-bytes [] k some h = let one = line-bytes 1 (Refused 11) (omega arith) in (omega (arith, some, one), omega (arith, one))
 body-bytes (l ∷ ls) k some h = go (names l)
   where
-    go : (x : Names) → length (named x ls) ≤ 29 * k
-    go (Names.Order at) = unfold named in omega (arith, h, listed-bytes at nothing 2 ls (omega arith))
-    go Names.Malformed = unfold named in omega (arith, some, line-bytes 1 (Refused 11) (omega arith))
+    go : (x : Names) → (length (named x ls) ≤ 29 * k) × (length (named x ls) ≤ 29 * (mostLines + 1))
+    go (Names.Order at) =
+        unfold named in let all = listed-bytes at nothing 2 ls (omega arith) in (omega (arith, h, all .0), omega (arith, all .1))
+    go Names.Malformed = unfold named in let one = line-bytes 1 (Refused 11) (omega arith) in (omega (arith, some, one), omega (arith, one))
 
 -- for a script of at most k lines, an empty one counted as one line, 18 + 29 × k bytes are enough
 pub enough : (script : List ℕ) (k : ℕ) → 1 ≤ k → length (lines script) ≤ k → length (listing script) ≤ 18 + 29 * k
 unfolding listing
-enough script k some few = simp length-append (omega (arith, body-bytes (lines script) k some few))
+enough script k some few = simp length-append (omega (arith, body-bytes (lines script) k some few .0))
+
+-- and for any script
+pub listing-short : (script : List ℕ) → length (listing script) ≤ 32 * (mostLines + 2)
+unfolding listing
+listing-short script =
+    simp length-append (omega (arith, body-bytes (lines script) (1 + length (lines script)) (omega arith) (omega arith) .1))

@@ -9,8 +9,9 @@ use types.Run.{OneOf, miss}
 use denote.Enum.Declared.{tagOf}
 use Rattle.machine.specs.Record.{blank}
 use Rattle.machine.specs.Rule as Rule
-use Rattle.machine.specs.Rule.{World, Result, lent, left, release, begin, read, write, commit, giveUp, finish, contender}
+use Rattle.machine.specs.Rule.{World, Result, lent, left, release, begin, read, write, commit, giveUp, finish, contender, firstAhead, coreOf}
 use Rattle.machine.specs.Answers.{named}
+use Rattle.machine.specs.Follows.{Follows}
 use Rattle.machine.specs.Sound as Sound
 use Rattle.machine.specs.declared.Machine.{Machine}
 use Rattle.machine.specs.declared.Outcome.{Outcome}
@@ -22,9 +23,9 @@ use Rattle.script.specs.declared.Call.the-variants as Call
 use Rattle.script.proofs.Call as CallType
 use Rattle.listing.specs.Text.{said}
 use Rattle.runner.specs.Kept.{held, Held}
-use Rattle.runner.specs.Listing.{called, setUp, nothing}
+use Rattle.runner.specs.Listing.{Request, Asks, request, met, called, setUp, nothing}
 use Rattle.runner.proofs.Setups as Setups
-use Rattle.runner.proofs.Acts.{Done, acted, acted-alone}
+use Rattle.runner.proofs.Acts.{Done, acted}
 
 -- a script's call is the rule's
 abbrev ByCall : Machine → List ℕ → List ℕ → Call → Outcome → List ℕ → List ℕ → Type 0
@@ -32,7 +33,7 @@ ByCall m cs ps call r cs′ ps′ = Done (held m cs ps) (called (held m cs ps) c
 
 module _ (m : Machine) (cs ps : List ℕ) (call : Call) (r : Outcome) (cs′ ps′ : List ℕ) where
   pub setup-done : (cores cards : ℕ) → call ≡ Call.Setup cores cards → Setups.Done cores cards r cs′ ps′ → ByCall m cs ps call r cs′ ps′
-  unfolding called
+  unfolding met request
   setup-done cores cards e d = subst (λ (x : Call). ByCall m cs ps x r cs′ ps′) (sym e) (ap said (d .0), d .1)
 
 module _ (m : Machine) (cs ps : List ℕ) (g : Good (held m cs ps)) (cl : length cs ≡ 64) (pl : length ps ≡ 1024) (call : Call) (r : Outcome) where
@@ -42,52 +43,58 @@ module _ (m : Machine) (cs ps : List ℕ) (g : Good (held m cs ps)) (cl : length
   abbrev nl : ℕ
   nl = m .cores * m .objects
 
+  -- the call is lent the first words, and leaves them as cs′ and ps′
+  pub lent-done : (asked : Rule.Call) → request call ≡ Asks asked → (cs′ ps′ : List ℕ) → length cs′ ≡ length (take dl cs) → length ps′ ≡ length (take nl ps)
+      → Follows (held m cs ps) asked (r .answer) (lent (r .machine) cs′ ps′) → ByCall m cs ps call r (cs′ ++ drop dl cs) (ps′ ++ drop nl ps)
+  unfolding met
+  lent-done asked e cs′ ps′ k l f =
+      subst (λ (x : Request). Done (held m cs ps) (met (held m cs ps) x) r (cs′ ++ drop dl cs) (ps′ ++ drop nl ps)) (sym e)
+      (acted m cs ps g cl pl asked r (firstAhead m (coreOf asked)) cs′ ps′ k l f)
+
+  -- the call is lent no table, or leaves both as they are
+  pub alone-done : (asked : Rule.Call) → request call ≡ Asks asked
+      → Follows (held m cs ps) asked (r .answer) (lent (r .machine) (take dl cs) (take nl ps)) → ByCall m cs ps call r cs ps
+  alone-done asked e f =
+      subst (λ (x : List ℕ). ByCall m cs ps call r x ps) (take-append-drop dl cs)
+      (subst (λ (y : List ℕ). ByCall m cs ps call r (take dl cs ++ drop dl cs) y) (take-append-drop nl ps)
+      (lent-done asked e (take dl cs) (take nl ps) refl refl f))
+
   pub release-done : (c number deadline : ℕ) → call ≡ Call.Release c number deadline → r ≡ release m c number deadline → ByCall m cs ps call r cs ps
-  unfolding called
+  unfolding request
   release-done c number deadline e p =
-      subst (λ (x : Call). ByCall m cs ps x r cs ps) (sym e)
-      (acted-alone m cs ps g cl pl (Rule.Release c number deadline) r (release-follows m (take dl cs) (take nl ps) r c number deadline p))
+      alone-done (Rule.Release c number deadline) (ap request e) (release-follows m (take dl cs) (take nl ps) r c number deadline p)
 
   pub begin-done : (c : ℕ) → call ≡ Call.Begin c → r ≡ begin m c → ByCall m cs ps call r cs ps
-  unfolding called
-  begin-done c e p =
-      subst (λ (x : Call). ByCall m cs ps x r cs ps) (sym e)
-      (acted-alone m cs ps g cl pl (Rule.Begin c) r (begin-follows m (take dl cs) (take nl ps) r c p))
+  unfolding request
+  begin-done c e p = alone-done (Rule.Begin c) (ap request e) (begin-follows m (take dl cs) (take nl ps) r c p)
 
   pub give-up-done : (c : ℕ) → call ≡ Call.GiveUp c → r ≡ giveUp m c → ByCall m cs ps call r cs ps
-  unfolding called
-  give-up-done c e p =
-      subst (λ (x : Call). ByCall m cs ps x r cs ps) (sym e)
-      (acted-alone m cs ps g cl pl (Rule.GiveUp c) r (give-up-follows m (take dl cs) (take nl ps) r c p))
+  unfolding request
+  give-up-done c e p = alone-done (Rule.GiveUp c) (ap request e) (give-up-follows m (take dl cs) (take nl ps) r c p)
 
   pub finish-done : (c : ℕ) → call ≡ Call.Finish c → r ≡ finish m c → ByCall m cs ps call r cs ps
-  unfolding called
-  finish-done c e p =
-      subst (λ (x : Call). ByCall m cs ps x r cs ps) (sym e)
-      (acted-alone m cs ps g cl pl (Rule.Finish c) r (finish-follows m (take dl cs) (take nl ps) r c p))
+  unfolding request
+  finish-done c e p = alone-done (Rule.Finish c) (ap request e) (finish-follows m (take dl cs) (take nl ps) r c p)
 
   pub read-done : (c d : ℕ) → call ≡ Call.Read c d → left r (take dl cs) (take nl ps) ≡ read (held m cs ps) c d → ByCall m cs ps call r cs ps
-  unfolding called
+  unfolding request
   read-done c d e p =
-      subst (λ (x : Call). ByCall m cs ps x r cs ps) (sym e)
-      (acted-alone m cs ps g cl pl (Rule.Read c d) r (read-follows m (take dl cs) (take nl ps) r (take dl cs) (take nl ps) c d p))
+      alone-done (Rule.Read c d) (ap request e) (read-follows m (take dl cs) (take nl ps) r (take dl cs) (take nl ps) c d p)
 
   pub write-done : (c d v : ℕ) (ps′ : List ℕ) → call ≡ Call.Write c d v → length ps′ ≡ length (take nl ps)
       → left r (take dl cs) ps′ ≡ write (held m cs ps) c d v → ByCall m cs ps call r cs (ps′ ++ drop nl ps)
-  unfolding called
+  unfolding request
   write-done c d v ps′ e l p =
-      subst (λ (x : Call). ByCall m cs ps x r cs (ps′ ++ drop nl ps)) (sym e)
-      (subst (λ (x : List ℕ). ByCall m cs ps (Call.Write c d v) r x (ps′ ++ drop nl ps)) (take-append-drop dl cs)
-      (acted m cs ps g cl pl (Rule.Write c d v) r (take dl cs) ps′ refl l
-      (write-follows m (take dl cs) (take nl ps) r (take dl cs) ps′ c d v p)))
+      subst (λ (x : List ℕ). ByCall m cs ps call r x (ps′ ++ drop nl ps)) (take-append-drop dl cs)
+      (lent-done (Rule.Write c d v) (ap request e) (take dl cs) ps′ refl l
+      (write-follows m (take dl cs) (take nl ps) r (take dl cs) ps′ c d v p))
 
   pub commit-done : (c : ℕ) (cs′ ps′ : List ℕ) → call ≡ Call.Commit c → length cs′ ≡ length (take dl cs) → length ps′ ≡ length (take nl ps)
       → left r cs′ ps′ ≡ commit (named (r .answer)) (held m cs ps) c → ((e : ℕ) → r .answer ≡ Waits e → contender m c e ≡ true)
       → ByCall m cs ps call r (cs′ ++ drop dl cs) (ps′ ++ drop nl ps)
-  unfolding called
+  unfolding request
   commit-done c cs′ ps′ e k l p waits =
-      subst (λ (x : Call). ByCall m cs ps x r (cs′ ++ drop dl cs) (ps′ ++ drop nl ps)) (sym e)
-      (acted m cs ps g cl pl (Rule.Commit c) r cs′ ps′ k l (commit-follows m (take dl cs) (take nl ps) r cs′ ps′ c p waits))
+      lent-done (Rule.Commit c) (ap request e) cs′ ps′ k l (commit-follows m (take dl cs) (take nl ps) r cs′ ps′ c p waits)
 
 -- ---- a blank record
 
@@ -108,7 +115,7 @@ blank-unsound = refl
 -- what a blank record answers to any call but setup, the first of the enum
 blank-called : (call : Call) → OneOf (1 ∷ 2 ∷ 3 ∷ 4 ∷ 5 ∷ 6 ∷ 7 ∷ []) (tagOf CallType.the-type call)
     → called nothing call ≡ record { answer = Refused 2; world = nothing }
-unfolding called Rule.rule Rule.release Rule.begin Rule.read Rule.write Rule.commit Rule.giveUp Rule.finish Rule.accessRefusal Rule.commitRefusal
+unfolding met request Rule.rule Rule.release Rule.begin Rule.read Rule.write Rule.commit Rule.giveUp Rule.finish Rule.accessRefusal Rule.commitRefusal
 blank-called (Call.Setup n d) h = absurd (miss (1 ∷ 2 ∷ 3 ∷ 4 ∷ 5 ∷ 6 ∷ 7 ∷ []) 0 tt h)
 blank-called (Call.Release c number deadline) h = ap (Rule.unlent nothing) (unsound-unless (Sound.sound blank) blank-unsound blank _ _)
 blank-called (Call.Begin c) h = ap (Rule.unlent nothing) (unsound-unless (Sound.sound blank) blank-unsound blank _ _)

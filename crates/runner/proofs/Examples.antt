@@ -9,12 +9,12 @@ use Rattle.decimal.specs.Spelling.{spelling, spellingIn}
 use Rattle.decimal.specs.Reading.{allDigits, noLeadingZero, valueAfter, isNumber, reads}
 use Rattle.machine.specs.Record.{tally, least, running}
 use Rattle.machine.specs.Sound.{inRange, setsWithin, ownerListed, idleClear, zombieEmpty, atMostEight, unusedJobs, lackedCores, lackedObjects, ownerFirst, ticketsDiffer, ticketsGiven, ticketsCounted, versionsBounded, ahead, abortsBounded, sound}
-use Rattle.machine.specs.Rule.{first, unless, unlessLent, setup, released, release, begun, begin, told, accessRefusal, valueRead, valued, read, written, write, contender, blocked, struck, cleared, changed, through, commitRefusal, commit, ended, giveUp, finished, finish, rule}
+use Rattle.machine.specs.Rule.{first, unless, unlessLent, setup, released, release, begun, begin, told, accessRefusal, valueRead, valued, read, written, write, contender, blocked, leastOf, struck, cleared, changed, through, commitRefusal, commit, ended, giveUp, finished, finish, rule}
 use Rattle.script.specs.Pieces as Pieces
 use Rattle.script.specs.Pieces.{onto, pieces, lines, same}
 use Rattle.script.specs.Line.{fields, place, ordered, names, verb, numbered, field, number, unused, spelt, meant, spells}
 use Rattle.listing.specs.Text.{said, line}
-use Rattle.runner.specs.Listing.{setUp, called, answered, listed, named, body, listing}
+use Rattle.runner.specs.Listing.{setUp, met, request, answered, listed, named, body, listing}
 
 -- the bytes of a text, whose characters are all below 128
 bytes : String → List ℕ
@@ -90,5 +90,5 @@ table =
     ∷ []
 
 each-listing : map (λ row. listing (row .0)) table ≡ map (λ row. row .1) table
-unfolding table byLine whole caseA caseK caseL ends bytes flatten listing body named listed answered called setUp lines Pieces.ended pieces onto same names ordered place spells meant fields verb field numbered number unused spelt reads isNumber allDigits noLeadingZero valueAfter spelling spellingIn line said rule setup first unless unlessLent released release begun begin told accessRefusal valueRead valued read written write contender blocked struck cleared changed through commitRefusal commit ended giveUp finished finish tally least running inRange setsWithin ownerListed idleClear zombieEmpty atMostEight unusedJobs lackedCores lackedObjects ownerFirst ticketsDiffer ticketsGiven ticketsCounted versionsBounded ahead abortsBounded sound has collect some each none added joined meeting below
+unfolding table byLine whole caseA caseK caseL ends bytes flatten listing body named listed answered met request setUp lines Pieces.ended pieces onto same names ordered place spells meant fields verb field numbered number unused spelt reads isNumber allDigits noLeadingZero valueAfter spelling spellingIn line said rule setup first unless unlessLent released release begun begin told accessRefusal valueRead valued read written write contender blocked leastOf struck cleared changed through commitRefusal commit ended giveUp finished finish tally least running inRange setsWithin ownerListed idleClear zombieEmpty atMostEight unusedJobs lackedCores lackedObjects ownerFirst ticketsDiffer ticketsGiven ticketsCounted versionsBounded ahead abortsBounded sound has collect some each none added joined meeting below
 each-listing = refl

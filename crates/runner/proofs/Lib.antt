@@ -8,5 +8,6 @@ mod Written
 mod Feeding
 mod Finishing
 pub mod Laws
+pub mod Runs
 pub mod Bounds
 mod Examples

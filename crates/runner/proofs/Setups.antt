@@ -81,7 +81,7 @@ set-up-new cores cards e =
     rw e
     (accepted cores cards (replicate cards 0) (replicate (cores * cards) 0) e (length-replicate cards 0) (length-replicate (cores * cards) 0))
 
-set-up-refused : (cores cards : ℕ) → inRange cores cards ≡ false → setUp cores cards ≡ record { answer = Refused 1; world = lent blank [] [] }
+pub set-up-refused : (cores cards : ℕ) → inRange cores cards ≡ false → setUp cores cards ≡ record { answer = Refused 1; world = lent blank [] [] }
 unfolding setUp
 set-up-refused cores cards e = rw e (refused cores cards [] [] e)
 

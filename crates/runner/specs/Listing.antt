@@ -6,7 +6,7 @@ use lib.Dec.{ltb, leb}
 use lib.ListN.{replicate}
 use Rattle.machine.specs.Record.{blank}
 use Rattle.machine.specs.Rule as Rule
-use Rattle.machine.specs.Rule.{World, Result, lent, rule}
+use Rattle.machine.specs.Rule.{World, Result, lent, rule, firstAhead, coreOf}
 use Rattle.machine.specs.declared.Answer.the-variants.{Refused}
 use Rattle.script.specs.declared.Call.{Call}
 use Rattle.script.specs.declared.Call.the-variants as Call
@@ -33,16 +33,29 @@ unfoldable pub setUp : ℕ → ℕ → Result
 setUp cores cards =
     cond (inRange cores cards) (Rule.setup cores cards (replicate cards 0) (replicate (cores * cards) 0)) (Rule.setup cores cards [] [])
 
--- a call by its rule; a listing does not show the core that waits names, here 0
-unfoldable pub called : World → Call → Result
-called w (Call.Setup cores cards) = setUp cores cards
-called w (Call.Release c number deadline) = rule 0 w (Rule.Release c number deadline)
-called w (Call.Begin c) = rule 0 w (Rule.Begin c)
-called w (Call.Read c d) = rule 0 w (Rule.Read c d)
-called w (Call.Write c d v) = rule 0 w (Rule.Write c d v)
-called w (Call.Commit c) = rule 0 w (Rule.Commit c)
-called w (Call.GiveUp c) = rule 0 w (Rule.GiveUp c)
-called w (Call.Finish c) = rule 0 w (Rule.Finish c)
+-- what a call of a script asks of the machine: setup, or one of the seven other calls
+pub data Request : Type 0 where
+  -- cores, cards
+  Anew : ℕ → ℕ → Request
+  Asks : Rule.Call → Request
+
+unfoldable pub request : Call → Request
+request (Call.Setup cores cards) = Anew cores cards
+request (Call.Release c number deadline) = Asks (Rule.Release c number deadline)
+request (Call.Begin c) = Asks (Rule.Begin c)
+request (Call.Read c d) = Asks (Rule.Read c d)
+request (Call.Write c d v) = Asks (Rule.Write c d v)
+request (Call.Commit c) = Asks (Rule.Commit c)
+request (Call.GiveUp c) = Asks (Rule.GiveUp c)
+request (Call.Finish c) = Asks (Rule.Finish c)
+
+-- a call by its rule; a listing does not show the core that waits names, here the least
+unfoldable pub met : World → Request → Result
+met w (Anew cores cards) = setUp cores cards
+met w (Asks call) = rule (firstAhead (w .machine) (coreOf call)) w call
+
+abbrev pub called : World → Call → Result
+called w call = met w (request call)
 
 -- a line that is not a call yields refusal 11
 unfoldable pub answered : World → Line → Result

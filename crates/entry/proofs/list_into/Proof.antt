@@ -7,7 +7,7 @@ use lib.Seq.{length-take-le}
 use denote.Ref.{now}
 use borrow.Author.Needs.{needs}
 use Rattle.entry.proofs.Filling.{Running, heading-put, running-starts, running-goes, running-small, running-ends, few-bytes}
-use Rattle.runner.proofs.Laws.{listing-short}
+use Rattle.runner.proofs.Bounds.{listing-short}
 use Rattle.entry.proofs.list_into.Statement.{statement}
 use Rattle.entry.proofs.list_into.Tie as tie
 
