@@ -4,17 +4,20 @@ ghost use mathlib.Core.List.{List, _++_};
 ghost use Prim.Native.Nat.{ℕ, _+_, _≤_, _<_};
 ghost use lib.ListN.{length, drop};
 ghost use Rattle.runner.specs.Listing.{listing};
+ghost use Rattle.runner.specs.Runs.{EveryScript};
 ghost use Rattle.entry.specs.Fitting.{fitting, given};
 
 // How many bytes of the script are run at a time. Each may end a line, which takes up to 32 bytes of text.
 const CHUNK: usize = 128;
 
 // Lists the script over the first bytes of the output and answers how many bytes that is. A listing that is longer than the output is
-// refused (12): the answer is 0 and the output is untouched.
+// refused (12): the answer is 0 and the output is untouched. The claim about whole runs holds of every script: of the calls after each
+// accepted setup, with the answers that are listed (runner's specs/Runs.antt).
 #[no_mangle]
 pub extern "C" fn cards_run(script: &[u8], output: &mut [u8]) -> usize
     ensures count { λ r. ⌜ r ≡ length (fitting (listing (now (script .entry))) (now (output .entry))) ⌝ }
     ensures bytes { λ _. ⌜ now (output .exit) ≡ given (listing (now (script .entry))) (now (output .entry)) ⌝ }
+    ensures runs { λ _. ⌜ EveryScript ⌝ }
 {
     let n = list_into(script, &mut output[..0]);
     if output.len() < n {

@@ -4,15 +4,8 @@ use mathlib.Core.List.{List, [], _∷_, _++_, flatten, append-assoc}
 use Prim.Native.Nat.{ℕ}
 use Rattle.script.specs.Pieces.{lines}
 use Rattle.listing.specs.Text.{heading}
-use Rattle.runner.specs.declared.Reading.{Reading}
-use Rattle.runner.specs.Kept.{rest}
+use Rattle.runner.specs.Kept.{State, rest}
 use Rattle.runner.specs.Listing.{body, listing}
-
--- what is kept between two chunks: the reading and the two tables
-pub record State : Type 0 where
-  pub reading : Reading
-  pub committed : List ℕ
-  pub pending : List ℕ
 
 -- what is still to be listed, if these bytes follow and the script ends
 abbrev pub left : State → List ℕ → List ℕ

@@ -2,18 +2,21 @@
 use Prim.Native.Nat.{ℕ, _+_, _*_, _≤_, _<_}
 use mathlib.Core.Path.{_≡_}
 use mathlib.Core.Logic.{_⊎_}
-use mathlib.Core.Bool.{Bool, true, cond}
+use mathlib.Core.Bool.{Bool, true, false, cond, _&&_, _||_}
 use mathlib.Core.List.{List, [], _∷_, _++_}
-use lib.Dec.{eqb}
-use lib.ListN.{length, take}
+use lib.Dec.{eqb, ltb}
+use lib.ListN.{length, take, drop, set}
 use Rattle.machine.specs.Record.{blank}
 use Rattle.machine.specs.Rule.{World, lent}
 use Rattle.machine.specs.declared.Machine.{Machine}
 use Rattle.machine.specs.Inside.{Good}
 use Rattle.script.specs.declared.Columns.{Columns}
+use Rattle.script.specs.declared.Names.{Names}
+use Rattle.script.specs.declared.Names.the-variants.{Order, Malformed}
+use Rattle.script.specs.Line.{names, spells}
 use Rattle.script.specs.Pieces.{lines, free}
 use Rattle.runner.specs.declared.Reading.{Reading}
-use Rattle.runner.specs.Listing.{body, listed, mostLines}
+use Rattle.runner.specs.Listing.{answered, body, listed, mostLines}
 
 -- the record with the first words of the two lent tables, as many as it has cards and cores × cards
 abbrev pub held : Machine → List ℕ → List ℕ → World
@@ -47,3 +50,74 @@ pub record Fit (r : Reading) (committed pending : List ℕ) : Type 0 where
   pub some-line : 0 < r .number
   pub few-lines : r .going ≡ true → r .number ≤ mostLines + 1
   pub first-blank : r .number ≡ 1 → r .machine ≡ blank
+
+-- ---- what a byte leaves of it
+
+-- what is kept: the reading, and every word of the two tables
+pub record State : Type 0 where
+  pub reading : Reading
+  pub committed : List ℕ
+  pub pending : List ℕ
+
+-- a table whose first words are these; the others stay
+abbrev pub over : List ℕ → List ℕ → List ℕ
+over words table = words ++ drop (length words) table
+
+-- what the end of a line leaves: whether lines are still read, the order of the fields, the record with its words
+pub record Ending : Type 0 where
+  pub going : Bool
+  pub columns : Columns
+  pub world : World
+
+unfoldable pub namesEnd : Columns → World → Names → Ending
+namesEnd at w (Order order) = record { going = true; columns = order; world = w }
+namesEnd at w Malformed = record { going = false; columns = at; world = w }
+
+-- the end of line n: the line of names, line 1,000,001, or a line of values
+unfoldable pub lineEnd : Columns → ℕ → World → List ℕ → Ending
+lineEnd at n w l =
+    cond (eqb n 1) (namesEnd at w (names l))
+    (cond (ltb mostLines n) (record { going = false; columns = at; world = w })
+    (record { going = true; columns = at; world = answered w (spells at l) .world }))
+
+-- the next line begins
+abbrev pub onward : State → Ending → State
+onward s e =
+    record {
+      reading =
+          record {
+            going = e .going;
+            columns = e .columns;
+            number = s .reading .number + 1;
+            line = s .reading .line;
+            length = 0;
+            machine = e .world .machine;
+          };
+      committed = over (e .world .committed) (s .committed);
+      pending = over (e .world .pending) (s .pending);
+    }
+
+-- a byte joins the line; past 64 one more is kept, and no other
+abbrev pub joining : Reading → ℕ → Reading
+joining r b =
+    record { going = r .going; columns = r .columns; number = r .number; line = set (r .line) (r .length) b; length = r .length + 1; machine = r .machine }
+
+unfoldable pub after : State → ℕ → State
+after s b =
+    let r : Reading = s .reading in
+    cond (eqb b 10)
+    (cond (r .going) (onward s (lineEnd (r .columns) (r .number) (held (r .machine) (s .committed) (s .pending)) (begun r))) s)
+    (cond (ltb (r .length) 65) (record { reading = joining r b; committed = s .committed; pending = s .pending }) s)
+
+-- what these bytes leave
+unfoldable pub fed : State → List ℕ → State
+fed s [] = s
+fed s (b ∷ bytes) = fed (after s b) bytes
+
+-- a line is left at the script's end: the line of names, even with no byte, or a line that has a byte
+abbrev pub lineLeft : Reading → Bool
+lineLeft r = r .going && (eqb (r .number) 1 || ltb 0 (r .length))
+
+-- the script ends: a line without its newline is a line
+unfoldable pub finished : State → State
+finished s = cond (lineLeft (s .reading)) (after s 10) s

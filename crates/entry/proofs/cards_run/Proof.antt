@@ -2,9 +2,15 @@
 use denote.Ref.{now}
 use borrow.Author.Needs.{needs}
 use Rattle.runner.specs.Listing.{listing}
+use Rattle.runner.specs.Runs.{EveryScript}
+use Rattle.runner.proofs.Runs.{every-script}
 use Rattle.entry.proofs.Fits.{too-long, fits}
 use Rattle.entry.proofs.cards_run.Statement.{statement}
 use Rattle.entry.proofs.cards_run.Tie as tie
+
+-- count and bytes, and the claim beside them
+with-claim : {A B : Type 0} → A × B → A × (B × EveryScript)
+with-claim p = (p .0, (p .1, every-script))
 
 slice-relend-prefix-list-into : tie.Need-slice-relend-prefix-list-into
 slice-relend-prefix-list-into c = search needs
@@ -22,7 +28,7 @@ returns : tie.Need-returns
 returns c =
     let first = c .before .before .before .list-into in
     let start = c .before .before .before .before .before .before .before .args in
-    too-long (listing (now (start .script))) (now (start .output)) (first .last .1 .0) (first .kept .1 .0) _ (first .ensures .0) (c .if1 .taken)
+    with-claim (too-long (listing (now (start .script))) (now (start .output)) (first .last .1 .0) (first .kept .1 .0) _ (first .ensures .0) (c .if1 .taken))
 
 list-into-requires-2 : tie.Need-list-into-requires-2
 list-into-requires-2 c κs = search needs
@@ -36,7 +42,7 @@ returns-2 c =
     let else1 = c .before .before .before .before in
     let first = else1 .before .before .before .list-into in
     let start = else1 .before .before .before .before .before .before .before .args in
-    fits (listing (now (start .script))) (now (start .output)) (first .last .1 .0) (first .kept .1 .0) _ (first .ensures .0) (else1 .if1 .left) _ _ (second .ensures .0) (second .ensures .1)
+    with-claim (fits (listing (now (start .script))) (now (start .output)) (first .last .1 .0) (first .kept .1 .0) _ (first .ensures .0) (else1 .if1 .left) _ _ (second .ensures .0) (second .ensures .1))
 
 pub cards-run-spec : {M : Type 1} → statement M
 cards-run-spec =
