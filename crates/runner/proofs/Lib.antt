@@ -4,6 +4,7 @@ mod Acts
 mod Sizes
 mod ByCall
 mod LineLaws
+mod Stepping
 mod Written
 mod Feeding
 mod Finishing
