@@ -1,6 +1,6 @@
 -- What a call that follows the rule can have done: the cases of the rule with the conditions that led to each, so that proofs
 -- about runs go by these cases and never open the rule again. Assumes nothing.
-use mathlib.Core.Path.{_≡_, refl, sym, subst₂, _∙_}
+use mathlib.Core.Path.{_≡_, refl, sym, ap, subst₂, _∙_}
 use mathlib.Core.Bool.{Bool, true, false, cond, not, _&&_, true≢false}
 use mathlib.Core.List.{List, [], _∷_}
 use Prim.Native.Nat.{ℕ, zero, suc, _*_, _<_}
@@ -10,13 +10,13 @@ use borrow.Author.Tests.{ltb-true, leb-false, eqb-true, eqb-false, not-false}
 use Rattle.objset.proofs.Laws.{both-left, both-right}
 use Rattle.machine.specs.declared.Machine.{Machine}
 use Rattle.machine.specs.declared.Answer.{Answer}
-use Rattle.machine.specs.declared.Answer.the-variants.{Begun, Written, Waits, SetBack, Ended, Refused}
+use Rattle.machine.specs.declared.Answer.the-variants.{Ready, Begun, Written, Waits, SetBack, Ended, Refused}
 use Rattle.machine.specs.declared.Outcome.{Outcome}
-use Rattle.machine.specs.Record.{coreAt}
+use Rattle.machine.specs.Record.{coreAt, sizesInRange, blank}
 use Rattle.machine.specs.Sound.{sound}
-use Rattle.machine.specs.Answers.{named}
+use Rattle.machine.specs.Answers.{kind, named}
 use Rattle.machine.specs.Follows.{Follows}
-use Rattle.machine.specs.Rule.{World, Result, withMachine, first, unless, unlessLent, unsound, wrongTables, noSuchCore, noSuchObject, fullList, jobless, inProgress, ticketsSpent, released, release, begun, begin, told, accessRefusal, valued, read, written, write, conflict, contender, blocked, through, waiting, commitRefusal, commit, ended, giveUp, finished, finish, rule, Call, Release, Begin, Read, Write, Commit, GiveUp, Finish, coreOf}
+use Rattle.machine.specs.Rule.{World, Result, lent, withMachine, first, unless, unlessLent, outOfRange, misfit, newWorld, setup, unsound, wrongTables, noSuchCore, noSuchObject, fullList, jobless, inProgress, ticketsSpent, released, release, begun, begin, told, accessRefusal, valued, read, written, write, conflict, contender, blocked, through, waiting, commitRefusal, commit, ended, giveUp, finished, finish, rule, Call, Release, Begin, Read, Write, Commit, GiveUp, Finish, coreOf}
 use Rattle.machine.proofs.Refusals.{passed}
 
 -- the record is sound and the core is one of the machine's
@@ -254,3 +254,24 @@ case-of {w} {call} {a} {w′} f =
     go (Commit c) e waits = commit-case w c e waits
     go (GiveUp c) e waits = give-up-case w c
     go (Finish c) e waits = finish-case w c
+
+-- ---- setup
+
+not-refused : (n : ℕ) → Refused n ≡ Ready → ⊥
+unfolding kind
+not-refused n e = absurd (eqb-false 11 0 refl (ap kind e))
+
+-- an accepted setup found its numbers in range, and gives the new world
+pub setup-case : (cores objects : ℕ) (committed pending : List ℕ) → setup cores objects committed pending .answer ≡ Ready
+    → (sizesInRange cores objects ≡ true) × (setup cores objects committed pending .world ≡ newWorld cores objects)
+unfolding setup first unlessLent
+setup-case cores objects committed pending = go (outOfRange cores objects) refl (misfit cores objects committed pending)
+  where
+    done : Bool → Bool → Result
+    done r f = unlessLent (first ((r, 1) ∷ (f, 3) ∷ [])) (lent blank committed pending) (record { answer = Ready; world = newWorld cores objects })
+
+    go : (r : Bool) → outOfRange cores objects ≡ r → (f : Bool) → done r f .answer ≡ Ready
+        → (sizesInRange cores objects ≡ true) × (done r f .world ≡ newWorld cores objects)
+    go true r f e = absurd (not-refused 1 e)
+    go false r true e = absurd (not-refused 3 e)
+    go false r false e = (not-false (sizesInRange cores objects) r, refl)

@@ -12,7 +12,7 @@ use Rattle.machine.specs.declared.Job.{Job}
 use Rattle.machine.specs.declared.Answer.{Answer}
 use Rattle.machine.specs.declared.Answer.the-variants.{Ready, Running, Queued, Begun, Value, Written, Waits, Committed, SetBack, Ended, Finished, Refused}
 use Rattle.machine.specs.declared.Outcome.{Outcome}
-use Rattle.machine.specs.Record.{noJob, coreAt, jobAt, idle, blank, machineOf, putCore, dataSet, least, running}
+use Rattle.machine.specs.Record.{noJob, coreAt, jobAt, idle, sizesInRange, blank, machineOf, putCore, dataSet, least, running}
 use Rattle.machine.specs.Sound.{sound}
 
 -- the record and the two lent tables: the committed values, one per card, and the pending values, cores × cards words
@@ -57,6 +57,10 @@ unlessLent (suc n) w accepted = record { answer = Refused (suc n); world = w }
 abbrev pub unsound : Machine → Bool
 unsound m = not (sound m)
 
+-- cores not 1 to 16 or cards not 1 to 64
+abbrev pub outOfRange : ℕ → ℕ → Bool
+outOfRange cores objects = not (sizesInRange cores objects)
+
 -- either table's length is wrong, for a machine of that many cores and cards
 abbrev pub misfit : ℕ → ℕ → List ℕ → List ℕ → Bool
 misfit cores objects committed pending = not (eqb (length committed) objects && eqb (length pending) (cores * objects))
@@ -85,17 +89,13 @@ ticketsSpent m = leb 4294967295 (m .tickets)
 
 -- ---- setup: no jobs, no transactions, all versions and both tables zero
 
+abbrev pub newWorld : ℕ → ℕ → World
+newWorld cores objects = lent (machineOf cores objects) (replicate objects 0) (replicate (cores * objects) 0)
+
 unfoldable pub setup : ℕ → ℕ → List ℕ → List ℕ → Result
 setup cores objects committed pending =
-    unlessLent
-    (first
-    ((not (ltb 0 cores && leb cores 16 && ltb 0 objects && leb objects 64), 1)
-    ∷ (misfit cores objects committed pending, 3) ∷ []))
-    (record { machine = blank; committed = committed; pending = pending })
-    (record {
-      answer = Ready;
-      world = record { machine = machineOf cores objects; committed = replicate objects 0; pending = replicate (cores * objects) 0 };
-    })
+    unlessLent (first ((outOfRange cores objects, 1) ∷ (misfit cores objects committed pending, 3) ∷ [])) (lent blank committed pending)
+    (record { answer = Ready; world = newWorld cores objects })
 
 -- ---- release: the job joins the end of the core's list
 
