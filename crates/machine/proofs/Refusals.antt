@@ -1,7 +1,7 @@
 -- Refusals: the smallest number that applies is given, and only if its condition holds; a refused call changes nothing, a refused
 -- setup gives the blank record. Assumes nothing.
 use mathlib.Core.Path.{_≡_, refl, sym, ap, ap₂, _∙_}
-use mathlib.Core.Bool.{Bool, true, false, cond, _&&_, _||_, true≢false}
+use mathlib.Core.Bool.{Bool, true, false, cond, _&&_, _||_, and-false, true≢false}
 use mathlib.Core.List.{List, [], _∷_}
 use Prim.Native.Nat.{ℕ, zero, suc, _≤_, _<_}
 use native.Mathlib.Omega.{arith}
@@ -41,10 +41,6 @@ above k n (x ∷ xs) up p =
       ltb-true k (x .1) (both-left (ltb k (x .1)) (rising (x .1) xs) up),
       at-least x n (applies n xs) p (above (x .1) n xs (both-right (ltb k (x .1)) (rising (x .1) xs) up)),
     )
-
-and-false : (a : Bool) → (a && false) ≡ false
-and-false true = refl
-and-false false = refl
 
 first-smallest : (k : ℕ) (xs : List (Bool × ℕ)) → rising k xs ≡ true → Smallest (first xs) xs
 unfolding first rising applies

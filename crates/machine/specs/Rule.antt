@@ -12,7 +12,7 @@ use Rattle.machine.specs.declared.Job.{Job}
 use Rattle.machine.specs.declared.Answer.{Answer}
 use Rattle.machine.specs.declared.Answer.the-variants.{Ready, Running, Queued, Begun, Value, Written, Waits, Committed, SetBack, Ended, Finished, Refused}
 use Rattle.machine.specs.declared.Outcome.{Outcome}
-use Rattle.machine.specs.Record.{noJob, coreAt, jobAt, idle, sizesInRange, blank, machineOf, putCore, dataSet, least, running}
+use Rattle.machine.specs.Record.{noJob, coreAt, jobAt, idle, sizesInRange, blank, machineOf, putCore, dataSet, running}
 use Rattle.machine.specs.Sound.{sound}
 
 -- the record and the two lent tables: the committed values, one per card, and the pending values, cores × cards words
@@ -256,9 +256,13 @@ blocked m c = some 16 (contender m c)
 abbrev pub aborted : Core → Core
 aborted k = attempting k (k .ticket) (k .aborts + 1) true 0 0
 
--- a transaction whose data set meets the write set ws is set back
+-- core k has a transaction whose data set meets the write set ws
+abbrev pub isStruck : ℕ → Core → Bool
+isStruck ws k = k .active && meeting ws (dataSet k)
+
+-- such a transaction is set back
 unfoldable pub struck : ℕ → Core → Core
-struck ws k = cond (k .active && meeting ws (dataSet k)) (aborted k) k
+struck ws k = cond (isStruck ws k) (aborted k) k
 
 -- the transaction of a core ends; its jobs stay
 abbrev pub over : Core → Core
@@ -273,6 +277,10 @@ cleared ws c i (k ∷ ks) = cond (eqb i c) (over k) (struck ws k) ∷ cleared ws
 unfoldable pub changed : ℕ → (ℕ → ℕ → ℕ) → ℕ → List ℕ → List ℕ
 changed ws f i [] = []
 changed ws f i (x ∷ xs) = cond (has ws i) (f i x) x ∷ changed ws f (suc i) xs
+
+-- what becomes of the committed value v of a written card d: the pending value
+abbrev pub moved : World → ℕ → ℕ → ℕ → ℕ
+moved w c d v = getD (w .pending) (slot (w .machine) c d) 0
 
 -- the transaction ends, the write set's pending values become committed, each written card's version rises by one
 unfoldable pub through : World → ℕ → Result
@@ -293,7 +301,7 @@ through w c =
                   core = cleared ws c 0 (m .core);
                   versions = changed ws (λ d v. v + 1) 0 (m .versions);
                 };
-            committed = changed ws (λ d v. getD (w .pending) (slot m c d) 0) 0 (w .committed);
+            committed = changed ws (moved w c) 0 (w .committed);
             pending = w .pending;
           };
     }

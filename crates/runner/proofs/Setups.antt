@@ -1,17 +1,16 @@
 -- Setup, lent as many words of the two tables as it asks for. Assumes nothing.
 use mathlib.Core.Path.{_≡_, refl, sym, ap, subst, _∙_}
 use mathlib.Core.Logic.{inl, inr}
-use mathlib.Core.Bool.{Bool, true, false, not, _&&_, true≢false}
+use mathlib.Core.Bool.{Bool, true, false, not, _&&_}
 use mathlib.Core.List.{List, [], _∷_, _++_}
 use Prim.Native.Nat.{ℕ, _*_, _≤_}
 use native.Mathlib.Nat.{mul-le-mul}
-use native.Mathlib.Omega.{arith}
 use lib.Dec.{eqb}
 use lib.ListN.{length, take, drop, replicate, length-replicate}
 use lib.Seq.{length-take-le, length-front}
 use borrow.Author.Tests.{eq-eqb}
 use Rattle.machine.specs.Record.{blank, machineOf, sizesInRange}
-use Rattle.machine.specs.Rule.{World, Result, lent, left, setup, first, unlessLent, misfit}
+use Rattle.machine.specs.Rule.{Result, lent, left, setup, first, unlessLent, misfit}
 use Rattle.machine.specs.declared.Outcome.{Outcome}
 use Rattle.machine.specs.declared.Answer.the-variants.{Ready, Refused}
 use Rattle.machine.specs.Inside.{Good}

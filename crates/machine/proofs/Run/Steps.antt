@@ -1,31 +1,28 @@
 -- Every call that follows the rule finds what Orderly.antt says and keeps the agreement; so does a whole run after an accepted
 -- setup. Assumes nothing.
 use mathlib.Core.Path.{_≡_, refl, sym, ap, ap₂, _∙_}
-use mathlib.Core.Bool.{Bool, true, false, cond, not, _&&_, _||_, true≢false}
+use mathlib.Core.Bool.{Bool, true, false, cond, _||_, true≢false}
 use mathlib.Core.List.{List, [], _∷_}
-use Prim.Native.Nat.{ℕ, zero, suc, _+_, _*_, _≤_, _<_}
+use Prim.Native.Nat.{ℕ, suc, _+_, _<_}
 use native.Mathlib.Numerals.{one-add}
 use native.Mathlib.Omega.{arith}
-use lib.Dec.{eqb, ltb, leb}
-use lib.ListN.{length, getD, replicate, length-replicate, getD-replicate, List·getD-eq-default}
-use borrow.Author.Tests.{ltb-true, ltb-false, leb-true, eqb-false, not-false}
-use Rattle.machine.specs.declared.Core.{Core}
+use lib.Dec.{ltb}
+use lib.ListN.{replicate, getD-replicate, List·getD-eq-default}
+use borrow.Author.Tests.{ltb-true, ltb-false}
 use Rattle.machine.specs.declared.Answer.{Answer}
-use Rattle.machine.specs.declared.Answer.the-variants.{Ready, Begun, Value, Written, Waits, Committed, SetBack, Ended, Refused}
 use Rattle.machine.specs.Answers.{kind, values}
 use Rattle.machine.specs.Record.{noCore, coreAt, blankCore, machineOf, sizesInRange}
 use Rattle.machine.specs.Rule as Rule
 use Rattle.machine.specs.Rule.{World, Call}
 use Rattle.machine.proofs.Case.{Case, is-refused, is-released, is-begun, is-told, is-valued, is-written, is-waiting, is-through, is-ended, is-finished, contends, case-of}
-use Rattle.objset.proofs.Laws.{both-left, both-right}
-use Rattle.machine.specs.Words.{Event, Deed, begins, reads, writes, waits, commits, told, gives, other, amounts, deeds, inProgress, births, born, any, wrote, conflict, crosses, attempt, struck, setBacks}
+use Rattle.machine.specs.Words.{Event, Deed, amounts, deeds, inProgress, births, born, any, wrote, conflict, attempt, struck, setBacks}
 use Rattle.machine.specs.Serial.{serial, version}
 use Rattle.machine.specs.Claims.{Run, fresh, then}
 use Rattle.machine.proofs.Sound.Passed.{in-range}
 use Rattle.machine.proofs.Run.Orderly.{Allowed, Orderly}
 use Rattle.machine.proofs.Run.View.{view}
 use Rattle.machine.proofs.Run.CoreAgrees.{CoreAgrees, agrees-idle, meets-crosses}
-use Rattle.machine.proofs.Run.Agreement.{Agree, Step, inside, acting, refused-other, told-amounts, agree-other, step-list, step-told, step-read, read-alone, step-write, step-waits, step-gives, step-begins}
+use Rattle.machine.proofs.Run.Agreement.{Agree, inside, acting, refused-other, told-amounts, agree-other, step-list, step-told, step-read, read-alone, step-write, step-waits, step-gives, step-begins}
 use Rattle.machine.proofs.Run.AgreementCommit.{step-commits, finds-commits}
 
 -- the core that waits names has an earlier transaction in conflict

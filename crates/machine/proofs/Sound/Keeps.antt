@@ -1,7 +1,7 @@
 -- Every call on a good world leaves a good world: a sound record of the right shape, and tables of the right lengths. The world
 -- of an accepted setup is good. Assumes nothing.
-use mathlib.Core.Path.{_≡_, refl, sym, ap, subst, _∙_}
-use mathlib.Core.Bool.{Bool, true, false, true≢false}
+use mathlib.Core.Path.{_≡_, refl, sym, subst, _∙_}
+use mathlib.Core.Bool.{true, false, true≢false}
 use mathlib.Core.List.{List}
 use Prim.Native.Nat.{ℕ, _*_, _-_, _≤_, _<_}
 use native.Mathlib.Omega.{arith}
@@ -14,15 +14,14 @@ use Rattle.machine.specs.declared.Job.{Job}
 use Rattle.machine.specs.declared.Answer.{Answer}
 use Rattle.machine.specs.declared.Answer.the-variants.{Ready}
 use Rattle.machine.specs.Record.{noJob, noCore, coreAt, putCore, idle, blankCore, machineOf, running}
-use Rattle.machine.specs.Sound.{sound}
-use Rattle.machine.specs.Rule.{World, slot, withJob, withSets, without, released, begun, told, valued, written, through, ended, finished, setup, Call}
+use Rattle.machine.specs.Rule.{World, slot, withJob, unmarked, withSets, without, released, begun, told, valued, written, through, ended, finished, setup, Call}
 use Rattle.machine.proofs.Case.{Case, is-refused, is-released, is-begun, is-told, is-valued, is-written, is-waiting, is-through, is-ended, is-finished, setup-case}
 use Rattle.machine.proofs.Tally.{tally-within}
-use Rattle.machine.specs.Inside.{Formed-core, Formed, Good}
+use Rattle.machine.specs.Inside.{Formed-core, Good}
 use Rattle.machine.proofs.Sound.Passed.{in-range}
 use Rattle.machine.proofs.Sound.Standing.{Tidy, standing, is-sound}
 use Rattle.machine.proofs.Sound.Jobs.{running-least, least-listed}
-use Rattle.machine.proofs.Sound.Cores.{unmarked, idle-list, idle-tidy, idle-formed, released-tidy, released-formed, told-tidy, told-formed, sets-tidy, sets-formed, finished-tidy, finished-formed, added-within}
+use Rattle.machine.proofs.Sound.Cores.{idle-list, idle-tidy, idle-formed, released-tidy, released-formed, told-tidy, told-formed, sets-tidy, sets-formed, finished-tidy, finished-formed, added-within}
 use Rattle.machine.proofs.Entries.{changed-long}
 use Rattle.machine.proofs.Sound.OneCore.{Whole, inside, put-whole, begun-whole, ended-whole}
 use Rattle.machine.proofs.Sound.Commit.{through-whole}
@@ -110,8 +109,7 @@ keeps-good {w} (is-waiting ok free rival) g = g
 keeps-good {w} (is-through {c} ok free clear) g =
     unfold through in
     good (through-whole (w .machine) c (ok .core-ok .is-core) (whole g) clear (ok .active) (w .committed) (w .pending))
-    (changed-long (coreAt (w .machine) c .writes) (λ d v. getD (w .pending) (slot (w .machine) c d) 0) 0 (w .committed)
-    ∙ g .committed-long) (g .pending-long)
+    (changed-long (coreAt (w .machine) c .writes) _ 0 (w .committed) ∙ g .committed-long) (g .pending-long)
 keeps-good {w} (is-ended {c} ok on) g =
     unfold ended in good (ended-whole (w .machine) c (ok .is-core) (whole g) on) (g .committed-long) (g .pending-long)
 keeps-good {w} (is-finished {c} ok some off) g =
