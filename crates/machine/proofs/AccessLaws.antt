@@ -1,18 +1,15 @@
 -- One law for each way a read or write can go, over plain variables: what the inside functions return is the rule's.
 -- Assumes nothing.
-use mathlib.Core.Path.{_≡_, refl, sym, ap, ap₂, _∙_}
+use mathlib.Core.Path.{_≡_, sym, ap, ap₂, _∙_}
 use mathlib.Core.Bool.{Bool, true, false, cond, not, _&&_}
-use mathlib.Core.List.{List, [], _∷_}
-use Prim.Native.Nat.{ℕ, suc, _+_, _*_, _≤_, _<_}
-use lib.ListN.{length, getD, set}
+use Prim.Native.Nat.{ℕ, suc, _≤_, _<_}
+use lib.ListN.{getD}
 use borrow.Author.Tests.{lt-ltb, le-ltb, eq-eqb}
 use Rattle.objset.specs.Objset.{has, added}
 use Rattle.machine.specs.declared.Machine.{Machine}
-use Rattle.machine.specs.declared.Core.{Core}
-use Rattle.machine.specs.declared.Answer.the-variants.{Refused, Value, Written}
+use Rattle.machine.specs.declared.Answer.the-variants.{Refused, Value}
 use Rattle.machine.specs.Record.{coreAt, putCore}
-use Rattle.machine.specs.Sound.{sound}
-use Rattle.machine.specs.Rule.{World, Result, withMachine, lent, first, unlessLent, wrongTables, noSuchObject, accessRefusal, slot, withSets, told, valueRead, valued, read, written, write}
+use Rattle.machine.specs.Rule.{World, Result, withMachine, unlessLent, wrongTables, noSuchObject, accessRefusal, slot, withSets, told, valueRead, valued, read, written, write}
 use Rattle.machine.specs.Inside.{Fine}
 use Rattle.machine.proofs.CallLaws.{skips, hits, none-holds, is-sound, a-core, no-core}
 

@@ -1,7 +1,7 @@
 -- The promise of each public call after setup is what a step of a run asks (Follows): so the claim in setup's promise is about the
 -- calls that run. Assumes nothing.
 use mathlib.Core.Path.{_≡_, refl, sym, ap, _∙_}
-use mathlib.Core.Bool.{Bool, true}
+use mathlib.Core.Bool.{true}
 use mathlib.Core.List.{List}
 use Prim.Native.Nat.{ℕ}
 use Rattle.machine.specs.declared.Machine.{Machine}

@@ -9,7 +9,7 @@ use Rattle.machine.specs.declared.Outcome.{Outcome}
 use Rattle.machine.specs.declared.Answer.the-variants.{Refused}
 use Rattle.machine.specs.Record.{coreAt}
 use Rattle.machine.specs.Sound.{sound}
-use Rattle.machine.specs.Rule.{first, unless, unsound, noSuchCore, jobless, inProgress, ticketsSpent, begun, begin, ended, giveUp}
+use Rattle.machine.specs.Rule.{first, unless, unsound, noSuchCore, begun, begin, ended, giveUp}
 
 -- ---- the first condition that holds
 

@@ -1,22 +1,24 @@
 -- What a call that follows the rule can have done: the cases of the rule with the conditions that led to each, so that proofs
 -- about runs go by these cases and never open the rule again. Assumes nothing.
-use mathlib.Core.Path.{_≡_, refl, sym, subst₂, _∙_}
-use mathlib.Core.Bool.{Bool, true, false, cond, not, _&&_, true≢false}
+use mathlib.Core.Path.{_≡_, refl, sym, ap, ap₂, subst₂, _∙_}
+use mathlib.Core.Bool.{Bool, true, false, cond, not, _&&_, _||_, true≢false}
 use mathlib.Core.List.{List, [], _∷_}
-use Prim.Native.Nat.{ℕ, zero, suc, _*_, _<_}
+use Prim.Native.Nat.{ℕ, zero, suc, _*_, _≤_, _<_}
 use lib.Dec.{eqb, ltb}
 use lib.ListN.{length}
-use borrow.Author.Tests.{ltb-true, leb-false, eqb-true, eqb-false, not-false}
-use Rattle.objset.proofs.Laws.{both-left, both-right}
+use borrow.Author.Tests.{ltb-true, ltb-false, leb-false, eqb-true, eqb-false, not-false}
+use Rattle.objset.specs.Objset.{meeting}
+use Rattle.objset.proofs.Laws.{both-left, both-right, one-some}
 use Rattle.machine.specs.declared.Machine.{Machine}
+use Rattle.machine.specs.declared.Core.{Core}
 use Rattle.machine.specs.declared.Answer.{Answer}
-use Rattle.machine.specs.declared.Answer.the-variants.{Begun, Written, Waits, SetBack, Ended, Refused}
+use Rattle.machine.specs.declared.Answer.the-variants.{Ready, Begun, Written, Waits, SetBack, Ended, Refused}
 use Rattle.machine.specs.declared.Outcome.{Outcome}
-use Rattle.machine.specs.Record.{coreAt}
+use Rattle.machine.specs.Record.{coreAt, dataSet, sizesInRange, blank}
 use Rattle.machine.specs.Sound.{sound}
-use Rattle.machine.specs.Answers.{named}
+use Rattle.machine.specs.Answers.{kind, named}
 use Rattle.machine.specs.Follows.{Follows}
-use Rattle.machine.specs.Rule.{World, Result, withMachine, first, unless, unlessLent, unsound, wrongTables, noSuchCore, noSuchObject, fullList, jobless, inProgress, ticketsSpent, released, release, begun, begin, told, accessRefusal, valued, read, written, write, conflict, contender, blocked, through, waiting, commitRefusal, commit, ended, giveUp, finished, finish, rule, Call, Release, Begin, Read, Write, Commit, GiveUp, Finish, coreOf}
+use Rattle.machine.specs.Rule.{World, Result, lent, withMachine, first, unless, unlessLent, outOfRange, misfit, newWorld, setup, unsound, wrongTables, noSuchCore, noSuchObject, fullList, jobless, inProgress, ticketsSpent, released, release, begun, begin, told, accessRefusal, valued, read, written, write, conflict, contender, blocked, isStruck, through, waiting, commitRefusal, commit, ended, giveUp, finished, finish, rule, Call, Release, Begin, Read, Write, Commit, GiveUp, Finish, coreOf}
 use Rattle.machine.proofs.Refusals.{passed}
 
 -- the record is sound and the core is one of the machine's
@@ -49,6 +51,20 @@ contends m c e p =
       ltb-true (coreAt m e .ticket) (coreAt m c .ticket) (both-right active less two),
       both-right (active && less) (conflict (coreAt m c) (coreAt m e)) p,
     )
+
+-- one whose data set meets the write set of another conflicts with it
+pub struck-conflicts : (a b : Core) → isStruck (a .writes) b ≡ true → conflict a b ≡ true
+struck-conflicts a b hit = ap (λ (x : Bool). x || meeting (b .writes) (dataSet a)) (both-right (b .active) _ hit)
+
+-- where nobody is ahead of core c, a transaction in conflict with its own has no smaller ticket
+pub not-ahead : (m : Machine) (c e : ℕ) → blocked m c ≡ false → e < 16 → coreAt m e .active ≡ true
+    → conflict (coreAt m c) (coreAt m e) ≡ true → coreAt m c .ticket ≤ coreAt m e .ticket
+unfolding blocked contender
+not-ahead m c e free l active clash = go (ltb (coreAt m e .ticket) (coreAt m c .ticket)) refl
+  where
+    go : (b : Bool) → ltb (coreAt m e .ticket) (coreAt m c .ticket) ≡ b → coreAt m c .ticket ≤ coreAt m e .ticket
+    go true t = absurd (true≢false (sym (one-some 16 (contender m c) e l (ap₂ _&&_ (ap₂ _&&_ active t) clash)) ∙ free))
+    go false t = ltb-false (coreAt m e .ticket) (coreAt m c .ticket) t
 
 pub data Case (w : World) : Call → Answer → World → Type 0 where
   is-refused : {call : Call} {n : ℕ} → Case w call (Refused (suc n)) w
@@ -254,3 +270,24 @@ case-of {w} {call} {a} {w′} f =
     go (Commit c) e waits = commit-case w c e waits
     go (GiveUp c) e waits = give-up-case w c
     go (Finish c) e waits = finish-case w c
+
+-- ---- setup
+
+not-refused : (n : ℕ) → Refused n ≡ Ready → ⊥
+unfolding kind
+not-refused n e = absurd (eqb-false 11 0 refl (ap kind e))
+
+-- an accepted setup found its numbers in range, and gives the new world
+pub setup-case : (cores objects : ℕ) (committed pending : List ℕ) → setup cores objects committed pending .answer ≡ Ready
+    → (sizesInRange cores objects ≡ true) × (setup cores objects committed pending .world ≡ newWorld cores objects)
+unfolding setup first unlessLent
+setup-case cores objects committed pending = go (outOfRange cores objects) refl (misfit cores objects committed pending)
+  where
+    done : Bool → Bool → Result
+    done r f = unlessLent (first ((r, 1) ∷ (f, 3) ∷ [])) (lent blank committed pending) (record { answer = Ready; world = newWorld cores objects })
+
+    go : (r : Bool) → outOfRange cores objects ≡ r → (f : Bool) → done r f .answer ≡ Ready
+        → (sizesInRange cores objects ≡ true) × (done r f .world ≡ newWorld cores objects)
+    go true r f e = absurd (not-refused 1 e)
+    go false r true e = absurd (not-refused 3 e)
+    go false r false e = (not-false (sizesInRange cores objects) r, refl)

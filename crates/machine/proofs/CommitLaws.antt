@@ -20,6 +20,7 @@ use Rattle.machine.specs.Rule.{World, Result, unlessLent, wrongTables, t
 use Rattle.machine.proofs.Entries.{cleared-at, cleared-long, changed-at, changed-long}
 use Rattle.machine.proofs.Facts.{stands, core-place, one-open}
 use Rattle.machine.proofs.CallLaws.{skips, hits, none-holds, is-sound, a-core, no-core}
+use Rattle.machine.proofs.AccessLaws.{refused-lent, accepted-lent}
 use Rattle.machine.proofs.Front.{Stands, stands-next, stands-stored, stands-kept, stands-all}
 
 -- ---- two transactions
@@ -173,14 +174,6 @@ row-within c cores objects h = omega (arith, mul-le-mul-right objects h, suc-mul
 
 -- ---- each way that commit can go
 
-refused : (w : World) (r n : ℕ) (done : Result) → r ≡ suc n → record { answer = Refused (suc n); world = w } ≡ unlessLent r w done
-unfolding unlessLent
-refused w r n done e = sym (ap (λ (x : ℕ). unlessLent x w done) e)
-
-accepted : (w : World) (r : ℕ) (done : Result) → r ≡ 0 → done ≡ unlessLent r w done
-unfolding unlessLent
-accepted w r done e = sym (ap (λ (x : ℕ). unlessLent x w done) e)
-
 -- a commit that goes through answers committed, and not waits
 pub through-never-waits : (w : World) (c : ℕ) (r : Result) → r ≡ through w c → (e : ℕ) → r .answer ≡ Waits e → ⊥
 unfolding through
@@ -197,20 +190,20 @@ module _ (w : World) (c : ℕ) (s : sound (w .machine) ≡ true) (committed-fits
   pub commit-no-core : (e : ℕ) → w .machine .cores ≤ c → record { answer = Refused 4; world = w } ≡ commit e w c
   unfolding commit commitRefusal
   commit-no-core e h =
-      refused w _ 3 _ (skips _ _ _ (is-sound (w .machine) s) (skips _ _ _ fit (hits _ _ _ (no-core (w .machine) c h))))
+      refused-lent w _ 3 _ (skips _ _ _ (is-sound (w .machine) s) (skips _ _ _ fit (hits _ _ _ (no-core (w .machine) c h))))
 
   module _ (h : c < w .machine .cores) where
     pub commit-none : (e : ℕ) → coreAt (w .machine) c .active ≡ false → record { answer = Refused 9; world = w } ≡ commit e w c
     unfolding commit commitRefusal
     commit-none e off =
-        refused w _ 8 _
+        refused-lent w _ 8 _
         (skips _ _ _ (is-sound (w .machine) s) (skips _ _ _ fit (skips _ _ _ (a-core (w .machine) c h) (hits _ _ _ (ap not off)))))
 
     module _ (on : coreAt (w .machine) c .active ≡ true) where
       taken : (done : Result) → done ≡ unlessLent (commitRefusal w c) w done
       unfolding commitRefusal
       taken done =
-          accepted w _ done
+          accepted-lent w _ done
           (skips _ _ _ (is-sound (w .machine) s)
           (skips _ _ _ fit (skips _ _ _ (a-core (w .machine) c h) (skips _ _ _ (ap not on) none-holds))))
 

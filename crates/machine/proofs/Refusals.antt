@@ -1,7 +1,7 @@
 -- Refusals: the smallest number that applies is given, and only if its condition holds; a refused call changes nothing, a refused
 -- setup gives the blank record. Assumes nothing.
 use mathlib.Core.Path.{_≡_, refl, sym, ap, ap₂, _∙_}
-use mathlib.Core.Bool.{Bool, true, false, cond, _&&_, _||_, true≢false}
+use mathlib.Core.Bool.{Bool, true, false, cond, _&&_, _||_, and-false, true≢false}
 use mathlib.Core.List.{List, [], _∷_}
 use Prim.Native.Nat.{ℕ, zero, suc, _≤_, _<_}
 use native.Mathlib.Omega.{arith}
@@ -10,11 +10,11 @@ use borrow.Author.Tests.{ltb-true, eqb-true, eq-eqb}
 use Rattle.objset.proofs.Laws.{both-left, both-right}
 use Rattle.machine.specs.declared.Machine.{Machine}
 use Rattle.machine.specs.declared.Answer.{Answer}
-use Rattle.machine.specs.declared.Answer.the-variants.{Running, Queued}
+use Rattle.machine.specs.declared.Answer.the-variants.{Running, Queued, Refused}
 use Rattle.machine.specs.declared.Outcome.{Outcome}
 use Rattle.machine.specs.Record.{coreAt, blank, running}
 use Rattle.machine.specs.Answers.{number}
-use Rattle.machine.specs.Rule.{commitRefusal, World, Result, withMachine, first, unless, unlessLent, setup, withJob, released, release, begun, begin, told, accessRefusal, valued, read, written, write, blocked, through, waiting, commit, ended, giveUp, finished, finish, rule, Call, Release, Begin, Read, Write, Commit, GiveUp, Finish}
+use Rattle.machine.specs.Rule.{commitRefusal, World, Result, lent, unlent, first, unless, unlessLent, setup, withJob, released, release, begun, begin, told, accessRefusal, valued, read, written, write, blocked, through, waiting, commit, ended, giveUp, finished, finish, rule, Call, Release, Begin, Read, Write, Commit, GiveUp, Finish}
 use Rattle.machine.specs.Refusals.{refusals, setupRefusals, applies, Smallest}
 
 -- ---- the first condition that holds has the smallest number
@@ -41,10 +41,6 @@ above k n (x ∷ xs) up p =
       ltb-true k (x .1) (both-left (ltb k (x .1)) (rising (x .1) xs) up),
       at-least x n (applies n xs) p (above (x .1) n xs (both-right (ltb k (x .1)) (rising (x .1) xs) up)),
     )
-
-and-false : (a : Bool) → (a && false) ≡ false
-and-false true = refl
-and-false false = refl
 
 first-smallest : (k : ℕ) (xs : List (Bool × ℕ)) → rising k xs ≡ true → Smallest (first xs) xs
 unfolding first rising applies
@@ -114,28 +110,31 @@ accepted-commit false e w c = refl
 
 -- ---- the number given, and what a refused call leaves
 
+-- a refusal with number n leaves what was there
+abbrev kept : ℕ → World → Result
+kept n w = record { answer = Refused n; world = w }
+
 -- the number is r; a refusal leaves what was there
-unless-refuses : (r : ℕ) (m : Machine) (o : Outcome) → Accepted (o .answer)
-    → (number (unless r m o .answer) ≡ r) × ((n : ℕ) → number (unless r m o .answer) ≡ suc n → unless r m o .machine ≡ m)
+unless-refuses : (r : ℕ) (w : World) (o : Outcome) → Accepted (o .answer)
+    → (number (unless r (w .machine) o .answer) ≡ r)
+    × ((n : ℕ) → number (unless r (w .machine) o .answer) ≡ suc n → unlent w (unless r (w .machine) o) ≡ kept (suc n) w)
 unfolding unless number
-unless-refuses zero m o h = (h, λ n p. absurd (omega (arith, h, p)))
-unless-refuses (suc r) m o h = (refl, λ n p. refl)
+unless-refuses zero w o h = (h, λ n p. absurd (omega (arith, h, p)))
+unless-refuses (suc r) w o h = (refl, λ n p. ap (λ (x : ℕ). kept x w) p)
 
 lent-refuses : (r : ℕ) (w : World) (x : Result) → Accepted (x .answer)
-    → (number (unlessLent r w x .answer) ≡ r) × ((n : ℕ) → number (unlessLent r w x .answer) ≡ suc n → unlessLent r w x .world ≡ w)
+    → (number (unlessLent r w x .answer) ≡ r) × ((n : ℕ) → number (unlessLent r w x .answer) ≡ suc n → unlessLent r w x ≡ kept (suc n) w)
 unfolding unlessLent number
 lent-refuses zero w x h = (h, λ n p. absurd (omega (arith, h, p)))
-lent-refuses (suc r) w x h = (refl, λ n p. refl)
+lent-refuses (suc r) w x h = (refl, λ n p. ap (λ (y : ℕ). kept y w) p)
 
 -- the number is that of the first condition in document 01's table that holds; a refused call leaves the world as it was
 refuses : (e : ℕ) (w : World) (call : Call)
     → (number (rule e w call .answer) ≡ first (refusals w call))
-    × ((n : ℕ) → number (rule e w call .answer) ≡ suc n → rule e w call .world ≡ w)
+    × ((n : ℕ) → number (rule e w call .answer) ≡ suc n → rule e w call ≡ kept (suc n) w)
 unfolding rule refusals first release begin read write commit giveUp finish
-refuses e w (Release c n deadline) =
-    let r = unless-refuses _ (w .machine) _ (accepted-release (w .machine) c n deadline) in (r .0, λ k p. ap (withMachine w) (r .1 k p))
-refuses e w (Begin c) =
-    let r = unless-refuses _ (w .machine) (begun (w .machine) c) (unfold begun number in refl) in (r .0, λ k p. ap (withMachine w) (r .1 k p))
+refuses e w (Release c n deadline) = unless-refuses _ w _ (accepted-release (w .machine) c n deadline)
+refuses e w (Begin c) = unless-refuses _ w (begun (w .machine) c) (unfold begun number in refl)
 refuses e w (Read c d) =
     let r = lent-refuses (accessRefusal w c d) w _ (accepted-access (coreAt (w .machine) c .zombie) w c (valued w c d) (unfold valued number in refl)) in
     (r .0 ∙ access-in-order w c d, r .1)
@@ -145,16 +144,14 @@ refuses e w (Write c d v) =
 refuses e w (Commit c) =
     let r = lent-refuses (commitRefusal w c) w _ (accepted-access (coreAt (w .machine) c .zombie) w c _ (accepted-commit (blocked (w .machine) c) e w c)) in
     (r .0 ∙ commit-in-order w c, r .1)
-refuses e w (GiveUp c) =
-    let r = unless-refuses _ (w .machine) (ended (w .machine) c) (unfold ended number in refl) in (r .0, λ k p. ap (withMachine w) (r .1 k p))
-refuses e w (Finish c) =
-    let r = unless-refuses _ (w .machine) (finished (w .machine) c) (unfold finished number in refl) in (r .0, λ k p. ap (withMachine w) (r .1 k p))
+refuses e w (GiveUp c) = unless-refuses _ w (ended (w .machine) c) (unfold ended number in refl)
+refuses e w (Finish c) = unless-refuses _ w (finished (w .machine) c) (unfold finished number in refl)
 
 -- the same of setup, which leaves the blank record and the tables as lent
 setup-refuses : (cores objects : ℕ) (committed pending : List ℕ)
     → (number (setup cores objects committed pending .answer) ≡ first (setupRefusals cores objects committed pending))
     × ((n : ℕ) → number (setup cores objects committed pending .answer) ≡ suc n
-    → setup cores objects committed pending .world ≡ record { machine = blank; committed = committed; pending = pending })
+    → setup cores objects committed pending ≡ kept (suc n) (lent blank committed pending))
 unfolding setup setupRefusals
 setup-refuses cores objects committed pending = lent-refuses _ _ _ (unfold number in refl)
 
@@ -172,10 +169,14 @@ setup-smallest-given cores objects committed pending =
 
 -- a refused call gives back the record it took, and lent tables keep every word
 pub refused-unchanged : (e : ℕ) (w : World) (call : Call) (n : ℕ) → number (rule e w call .answer) ≡ suc n → rule e w call .world ≡ w
-refused-unchanged e w call = refuses e w call .1
+refused-unchanged e w call n p = ap (λ (x : Result). x .world) (refuses e w call .1 n p)
+
+-- where the first condition that holds has number n, that is the answer
+pub refused-with : (e : ℕ) (w : World) (call : Call) (n : ℕ) → first (refusals w call) ≡ suc n → record { answer = Refused (suc n); world = w } ≡ rule e w call
+refused-with e w call n p = sym (refuses e w call .1 n (refuses e w call .0 ∙ p))
 
 -- a refused setup gives the blank record and keeps the tables as lent
 pub setup-refused-blank : (cores objects : ℕ) (committed pending : List ℕ) (n : ℕ)
     → number (setup cores objects committed pending .answer) ≡ suc n
-    → setup cores objects committed pending .world ≡ record { machine = blank; committed = committed; pending = pending }
-setup-refused-blank cores objects committed pending = setup-refuses cores objects committed pending .1
+    → setup cores objects committed pending .world ≡ lent blank committed pending
+setup-refused-blank cores objects committed pending n p = ap (λ (x : Result). x .world) (setup-refuses cores objects committed pending .1 n p)

@@ -1,10 +1,10 @@
 -- The record's parts: a core, a job, what is blank, and one core put in another's place. Assumes nothing.
-use mathlib.Core.Bool.{Bool, true, false, cond, _&&_, _||_}
-use mathlib.Core.List.{List, [], _∷_}
-use Prim.Native.Nat.{ℕ, zero, suc, _+_, _<_}
-use lib.Dec.{ltb}
+use mathlib.Core.Bool.{Bool, false, cond, _&&_}
+use mathlib.Core.List.{List, []}
+use Prim.Native.Nat.{ℕ, zero, suc, _+_}
+use lib.Dec.{ltb, leb}
 use lib.ListN.{getD, set, replicate}
-use Rattle.objset.specs.Objset.{none, joined}
+use Rattle.objset.specs.Objset.{joined}
 use Rattle.machine.specs.declared.Machine.{Machine}
 use Rattle.machine.specs.declared.Core.{Core}
 use Rattle.machine.specs.declared.Job.{Job}
@@ -30,6 +30,10 @@ idle jobs n = record { jobs = jobs; count = n; active = false; owner = 0; ticket
 -- a core with no job and no transaction
 abbrev pub blankCore : Core
 blankCore = idle (replicate 8 noJob) 0
+
+-- the machine has 1 to 16 cores and 1 to 64 cards
+abbrev pub sizesInRange : ℕ → ℕ → Bool
+sizesInRange cores objects = ltb 0 cores && leb cores 16 && ltb 0 objects && leb objects 64
 
 -- a machine with no job and no transaction, all versions zero; `machineOf 0 0` is the blank record, all fields 0
 abbrev pub machineOf : ℕ → ℕ → Machine

@@ -3,9 +3,9 @@ use mathlib.Core.Path.{_≡_}
 use mathlib.Core.Bool.{Bool, true, false, not, _&&_, _||_}
 use mathlib.Core.List.{List, [], _∷_}
 use Prim.Native.Nat.{ℕ, _≤_, _<_}
-use lib.Dec.{eqb, leb, ltb}
+use lib.Dec.{eqb}
 use Rattle.machine.specs.declared.Machine.{Machine}
-use Rattle.machine.specs.Rule.{World, misfit, unsound, wrongTables, noSuchCore, noSuchObject, fullList, jobless, inProgress, ticketsSpent, Call, Release, Begin, Read, Write, Commit, GiveUp, Finish, coreOf}
+use Rattle.machine.specs.Rule.{World, outOfRange, misfit, unsound, wrongTables, noSuchCore, noSuchObject, fullList, jobless, inProgress, ticketsSpent, Call, Release, Begin, Read, Write, Commit, GiveUp, Finish, coreOf}
 
 -- the card that a read or a write names
 abbrev pub objectOf : Call → ℕ
@@ -52,9 +52,7 @@ refusals w call =
 
 -- the table of setup
 unfoldable pub setupRefusals : ℕ → ℕ → List ℕ → List ℕ → List (Bool × ℕ)
-setupRefusals cores objects committed pending =
-    (not (ltb 0 cores && leb cores 16 && ltb 0 objects && leb objects 64), 1)
-    ∷ (misfit cores objects committed pending, 3) ∷ []
+setupRefusals cores objects committed pending = (outOfRange cores objects, 1) ∷ (misfit cores objects committed pending, 3) ∷ []
 
 -- number n applies: a condition of that number holds
 unfoldable pub applies : ℕ → List (Bool × ℕ) → Bool

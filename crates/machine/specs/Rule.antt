@@ -12,7 +12,7 @@ use Rattle.machine.specs.declared.Job.{Job}
 use Rattle.machine.specs.declared.Answer.{Answer}
 use Rattle.machine.specs.declared.Answer.the-variants.{Ready, Running, Queued, Begun, Value, Written, Waits, Committed, SetBack, Ended, Finished, Refused}
 use Rattle.machine.specs.declared.Outcome.{Outcome}
-use Rattle.machine.specs.Record.{noJob, coreAt, jobAt, idle, blank, machineOf, putCore, dataSet, least, running}
+use Rattle.machine.specs.Record.{noJob, coreAt, jobAt, idle, sizesInRange, blank, machineOf, putCore, dataSet, running}
 use Rattle.machine.specs.Sound.{sound}
 
 -- the record and the two lent tables: the committed values, one per card, and the pending values, cores × cards words
@@ -57,6 +57,10 @@ unlessLent (suc n) w accepted = record { answer = Refused (suc n); world = w }
 abbrev pub unsound : Machine → Bool
 unsound m = not (sound m)
 
+-- cores not 1 to 16 or cards not 1 to 64
+abbrev pub outOfRange : ℕ → ℕ → Bool
+outOfRange cores objects = not (sizesInRange cores objects)
+
 -- either table's length is wrong, for a machine of that many cores and cards
 abbrev pub misfit : ℕ → ℕ → List ℕ → List ℕ → Bool
 misfit cores objects committed pending = not (eqb (length committed) objects && eqb (length pending) (cores * objects))
@@ -85,17 +89,13 @@ ticketsSpent m = leb 4294967295 (m .tickets)
 
 -- ---- setup: no jobs, no transactions, all versions and both tables zero
 
+abbrev pub newWorld : ℕ → ℕ → World
+newWorld cores objects = lent (machineOf cores objects) (replicate objects 0) (replicate (cores * objects) 0)
+
 unfoldable pub setup : ℕ → ℕ → List ℕ → List ℕ → Result
 setup cores objects committed pending =
-    unlessLent
-    (first
-    ((not (ltb 0 cores && leb cores 16 && ltb 0 objects && leb objects 64), 1)
-    ∷ (misfit cores objects committed pending, 3) ∷ []))
-    (record { machine = blank; committed = committed; pending = pending })
-    (record {
-      answer = Ready;
-      world = record { machine = machineOf cores objects; committed = replicate objects 0; pending = replicate (cores * objects) 0 };
-    })
+    unlessLent (first ((outOfRange cores objects, 1) ∷ (misfit cores objects committed pending, 3) ∷ [])) (lent blank committed pending)
+    (record { answer = Ready; world = newWorld cores objects })
 
 -- ---- release: the job joins the end of the core's list
 
@@ -265,9 +265,13 @@ firstAhead m c = leastOf 16 (contender m c)
 abbrev pub aborted : Core → Core
 aborted k = attempting k (k .ticket) (k .aborts + 1) true 0 0
 
--- a transaction whose data set meets the write set ws is set back
+-- core k has a transaction whose data set meets the write set ws
+abbrev pub isStruck : ℕ → Core → Bool
+isStruck ws k = k .active && meeting ws (dataSet k)
+
+-- such a transaction is set back
 unfoldable pub struck : ℕ → Core → Core
-struck ws k = cond (k .active && meeting ws (dataSet k)) (aborted k) k
+struck ws k = cond (isStruck ws k) (aborted k) k
 
 -- the transaction of a core ends; its jobs stay
 abbrev pub over : Core → Core
@@ -282,6 +286,10 @@ cleared ws c i (k ∷ ks) = cond (eqb i c) (over k) (struck ws k) ∷ cleared ws
 unfoldable pub changed : ℕ → (ℕ → ℕ → ℕ) → ℕ → List ℕ → List ℕ
 changed ws f i [] = []
 changed ws f i (x ∷ xs) = cond (has ws i) (f i x) x ∷ changed ws f (suc i) xs
+
+-- what becomes of the committed value v of a written card d: the pending value
+abbrev pub moved : World → ℕ → ℕ → ℕ → ℕ
+moved w c d v = getD (w .pending) (slot (w .machine) c d) 0
 
 -- the transaction ends, the write set's pending values become committed, each written card's version rises by one
 unfoldable pub through : World → ℕ → Result
@@ -302,7 +310,7 @@ through w c =
                   core = cleared ws c 0 (m .core);
                   versions = changed ws (λ d v. v + 1) 0 (m .versions);
                 };
-            committed = changed ws (λ d v. getD (w .pending) (slot m c d) 0) 0 (w .committed);
+            committed = changed ws (moved w c) 0 (w .committed);
             pending = w .pending;
           };
     }

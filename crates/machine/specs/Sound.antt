@@ -1,13 +1,13 @@
 -- The standing rules of a record (document 01), one definition each, in the document's order. Assumes nothing.
-use mathlib.Core.Bool.{Bool, true, false, not, _&&_, _||_}
-use Prim.Native.Nat.{ℕ, _+_, _<_}
+use mathlib.Core.Bool.{Bool, not, _&&_, _||_}
+use Prim.Native.Nat.{ℕ, _+_}
 use lib.Dec.{eqb, leb, ltb}
 use lib.ListN.{getD}
 use Rattle.objset.specs.Objset.{each, below}
 use Rattle.machine.specs.declared.Machine.{Machine}
 use Rattle.machine.specs.declared.Core.{Core}
 use Rattle.machine.specs.declared.Job.{Job}
-use Rattle.machine.specs.Record.{coreAt, jobAt, tally}
+use Rattle.machine.specs.Record.{coreAt, jobAt, tally, sizesInRange}
 
 infixr 25 _⇒_
 abbrev pub _⇒_ : Bool → Bool → Bool
@@ -19,7 +19,7 @@ eachCore rule m = each 16 (λ c. rule (coreAt m c))
 
 -- cores and cards are in range
 unfoldable pub inRange : Machine → Bool
-inRange m = ltb 0 (m .cores) && leb (m .cores) 16 && ltb 0 (m .objects) && leb (m .objects) 64
+inRange m = sizesInRange (m .cores) (m .objects)
 
 -- sets lie within the cards
 unfoldable pub setsWithin : Machine → Bool

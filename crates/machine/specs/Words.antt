@@ -2,8 +2,8 @@
 -- 'before' are the rest of the list. Assumes nothing.
 use mathlib.Core.Bool.{Bool, true, false, cond, not, _&&_, _||_}
 use mathlib.Core.List.{List, [], _∷_}
-use Prim.Native.Nat.{ℕ, zero, suc, _+_}
-use lib.Dec.{eqb, ltb}
+use Prim.Native.Nat.{ℕ, _+_}
+use lib.Dec.{eqb}
 use lib.ListN.{getD}
 use Rattle.objset.specs.Objset.{some}
 use Rattle.machine.specs.declared.Answer.{Answer}

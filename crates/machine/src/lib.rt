@@ -11,11 +11,11 @@ use crate::soundness::is_sound;
 ghost use mathlib.Core.Path.{_≡_};
 ghost use mathlib.Core.Bool.{true, _&&_};
 ghost use Prim.Native.Nat.{ℕ, _*_};
-ghost use lib.Dec.{eqb, ltb, leb};
+ghost use lib.Dec.{eqb};
 ghost use Rattle.machine.specs.Sound.{sound};
 ghost use Rattle.machine.specs.Rule as Rule;
 ghost use Rattle.machine.specs.Rule.{lent, left};
-ghost use Rattle.machine.specs.Record.{blank};
+ghost use Rattle.machine.specs.Record.{blank, sizesInRange};
 ghost use Rattle.machine.specs.declared.Answer.the-variants.{Ready, Refused, Waits};
 ghost use Rattle.machine.specs.Claims.{EveryRun};
 ghost use Rattle.machine.specs.Answers.{number, values, named};
@@ -92,9 +92,9 @@ pub struct Outcome {
     pub machine: Machine,
 }
 
-// Whether there may be that many cores and cards.
+// Whether a machine may have that many cores and cards.
 pub fn in_range(cores: u32, objects: u32) -> bool
-    ensures { λ r. ⌜ r ≡ (ltb 0 cores && leb cores 16 && ltb 0 objects && leb objects 64) ⌝ }
+    ensures { λ r. ⌜ r ≡ sizesInRange cores objects ⌝ }
 {
     if cores < 1 {
         return false;

@@ -5,6 +5,7 @@ use mathlib.Core.List.{List, [], _∷_, _++_}
 use Prim.Native.Nat.{ℕ, _*_}
 use native.Mathlib.Omega.{arith}
 use lib.ListN.{replicate}
+use Rattle.machine.specs.Record.{sizesInRange}
 use Rattle.machine.specs.Rule as Rule
 use Rattle.machine.specs.Rule.{World, Result, rule, firstAhead, coreOf}
 use Rattle.machine.specs.Words.{Event}
@@ -16,7 +17,7 @@ use Rattle.script.specs.declared.Line.{Line}
 use Rattle.script.specs.declared.Line.the-variants.{Spells, Malformed}
 use Rattle.script.specs.declared.Columns.{Columns}
 use Rattle.script.specs.Line.{spells}
-use Rattle.runner.specs.Listing.{Request, Anew, Asks, request, setUp, inRange, met, answered}
+use Rattle.runner.specs.Listing.{Request, Anew, Asks, request, setUp, met, answered}
 use Rattle.runner.specs.Runs.{anew, endsRun, eventOf, event, events, reached, EveryScript}
 use Rattle.runner.proofs.Setups.{set-up-refused}
 
@@ -44,9 +45,9 @@ run-on at w₀ w es (l ∷ ls) run = line (spells at l) (λ w′ es′ r. run-on
     line (Spells call) more = unfold endsRun event answered in asked (request call) more
 
 pub every-script : EveryScript
-every-script = record { claimed = λ at cores cards ls ready. go at cores cards ls (inRange cores cards) refl ready }
+every-script = record { claimed = λ at cores cards ls ready. go at cores cards ls (sizesInRange cores cards) refl ready }
   where
-    go : (at : Columns) (cores cards : ℕ) (ls : List (List ℕ)) (b : Bool) → inRange cores cards ≡ b → setUp cores cards .answer ≡ Ready
+    go : (at : Columns) (cores cards : ℕ) (ls : List (List ℕ)) (b : Bool) → sizesInRange cores cards ≡ b → setUp cores cards .answer ≡ Ready
         → Claim (setUp cores cards .world) (events at (setUp cores cards .world) [] ls) (reached at (setUp cores cards .world) ls)
     go at cores cards ls true e ready =
         let same : setUp cores cards ≡ Rule.setup cores cards (replicate cards 0) (replicate (cores * cards) 0) = unfold setUp in rw e refl in

@@ -1,23 +1,23 @@
 -- Setup, lent as many words of the two tables as it asks for. Assumes nothing.
 use mathlib.Core.Path.{_≡_, refl, sym, ap, subst, _∙_}
 use mathlib.Core.Logic.{inl, inr}
-use mathlib.Core.Bool.{Bool, true, false, not, _&&_, true≢false}
+use mathlib.Core.Bool.{Bool, true, false, not, _&&_}
 use mathlib.Core.List.{List, [], _∷_, _++_}
 use Prim.Native.Nat.{ℕ, _*_, _≤_}
 use native.Mathlib.Nat.{mul-le-mul}
-use native.Mathlib.Omega.{arith}
-use lib.Dec.{eqb, ltb, leb}
+use lib.Dec.{eqb}
 use lib.ListN.{length, take, drop, replicate, length-replicate}
 use lib.Seq.{length-take-le, length-front}
-use borrow.Author.Tests.{eq-eqb, leb-true}
-use Rattle.machine.specs.Record.{blank, machineOf}
-use Rattle.machine.specs.Rule.{World, Result, lent, left, setup, first, unlessLent, misfit}
+use borrow.Author.Tests.{eq-eqb}
+use Rattle.machine.specs.Record.{blank, machineOf, sizesInRange}
+use Rattle.machine.specs.Rule.{Result, lent, left, setup, first, unlessLent, misfit}
 use Rattle.machine.specs.declared.Outcome.{Outcome}
 use Rattle.machine.specs.declared.Answer.the-variants.{Ready, Refused}
 use Rattle.machine.specs.Inside.{Good}
 use Rattle.machine.proofs.InsideLaws.{setup-left}
+use Rattle.machine.proofs.Sound.Passed.{in-range}
 use Rattle.runner.specs.Kept.{held, Held}
-use Rattle.runner.specs.Listing.{inRange, setUp}
+use Rattle.runner.specs.Listing.{setUp}
 use Rattle.runner.proofs.Acts.{front-held}
 
 -- what an accepted setup leaves
@@ -28,27 +28,18 @@ new cores cards =
       world = record { machine = machineOf cores cards; committed = replicate cards 0; pending = replicate (cores * cards) 0 };
     }
 
-all-four : (a b c d : Bool) → a && b && c && d ≡ true → (b ≡ true) × (d ≡ true)
-all-four true true true true e = (refl, refl)
-all-four true true true false e = absurd (true≢false (sym e))
-all-four true true false d e = absurd (true≢false (sym e))
-all-four true false c d e = absurd (true≢false (sym e))
-all-four false b c d e = absurd (true≢false (sym e))
-
 -- the numbers are in range
-pub few-cards : (cores cards : ℕ) → inRange cores cards ≡ true → (cores ≤ 16) × (cards ≤ 64)
-few-cards cores cards e =
-    let in-range = all-four (ltb 0 cores) (leb cores 16) (ltb 0 cards) (leb cards 64) e in
-    (leb-true cores 16 (in-range .0), leb-true cards 64 (in-range .1))
+pub few-cards : (cores cards : ℕ) → sizesInRange cores cards ≡ true → (cores ≤ 16) × (cards ≤ 64)
+few-cards cores cards e = let r = in-range cores cards e in (r .1, r .3)
 
 pub few-words : (cores cards : ℕ) → cores ≤ 16 → cards ≤ 64 → cores * cards ≤ 1024
 few-words cores cards a b = mul-le-mul a b
 
-accepted : (cores cards : ℕ) (cs ps : List ℕ) → inRange cores cards ≡ true → length cs ≡ cards → length ps ≡ cores * cards
+accepted : (cores cards : ℕ) (cs ps : List ℕ) → sizesInRange cores cards ≡ true → length cs ≡ cards → length ps ≡ cores * cards
     → setup cores cards cs ps ≡ new cores cards
 unfolding setup
 accepted cores cards cs ps e c p =
-    go (inRange cores cards) e (eqb (length cs) cards) (eq-eqb (length cs) cards c) (eqb (length ps) (cores * cards))
+    go (sizesInRange cores cards) e (eqb (length cs) cards) (eq-eqb (length cs) cards c) (eqb (length ps) (cores * cards))
     (eq-eqb (length ps) (cores * cards) p)
   where
     go : (a : Bool) → a ≡ true → (b : Bool) → b ≡ true → (d : Bool) → d ≡ true
@@ -59,10 +50,10 @@ accepted cores cards cs ps e c p =
     go false i b j d k = cc
 
 -- out of range it is refused, whatever it is lent
-refused : (cores cards : ℕ) (cs ps : List ℕ) → inRange cores cards ≡ false
+refused : (cores cards : ℕ) (cs ps : List ℕ) → sizesInRange cores cards ≡ false
     → setup cores cards cs ps ≡ record { answer = Refused 1; world = lent blank cs ps }
 unfolding setup
-refused cores cards cs ps e = go (inRange cores cards) e
+refused cores cards cs ps e = go (sizesInRange cores cards) e
   where
     go : (a : Bool) → a ≡ false
         → unlessLent (first ((not a, 1) ∷ (misfit cores cards cs ps, 3) ∷ [])) (lent blank cs ps) (new cores cards)
@@ -75,18 +66,18 @@ abbrev pub Done : ℕ → ℕ → Outcome → List ℕ → List ℕ → Type 0
 Done cores cards r cs ps =
     (r .answer ≡ setUp cores cards .answer) × ((held (r .machine) cs ps ≡ setUp cores cards .world) × Held (r .machine) cs ps)
 
-set-up-new : (cores cards : ℕ) → inRange cores cards ≡ true → setUp cores cards ≡ new cores cards
+set-up-new : (cores cards : ℕ) → sizesInRange cores cards ≡ true → setUp cores cards ≡ new cores cards
 unfolding setUp
 set-up-new cores cards e =
     rw e
     (accepted cores cards (replicate cards 0) (replicate (cores * cards) 0) e (length-replicate cards 0) (length-replicate (cores * cards) 0))
 
-pub set-up-refused : (cores cards : ℕ) → inRange cores cards ≡ false → setUp cores cards ≡ record { answer = Refused 1; world = lent blank [] [] }
+pub set-up-refused : (cores cards : ℕ) → sizesInRange cores cards ≡ false → setUp cores cards ≡ record { answer = Refused 1; world = lent blank [] [] }
 unfolding setUp
 set-up-refused cores cards e = rw e (refused cores cards [] [] e)
 
 module _ (cores cards : ℕ) (cs ps : List ℕ) (cl : length cs ≡ 64) (pl : length ps ≡ 1024) (r : Outcome) (cs′ ps′ : List ℕ) where
-  pub set-up-accepts : inRange cores cards ≡ true → length cs′ ≡ length (take cards cs) → length ps′ ≡ length (take (cores * cards) ps)
+  pub set-up-accepts : sizesInRange cores cards ≡ true → length cs′ ≡ length (take cards cs) → length ps′ ≡ length (take (cores * cards) ps)
       → left r cs′ ps′ ≡ setup cores cards (take cards cs) (take (cores * cards) ps)
       → Done cores cards r (cs′ ++ drop cards cs) (ps′ ++ drop (cores * cards) ps)
   set-up-accepts e cl′ pl′ s =
@@ -108,7 +99,7 @@ module _ (cores cards : ℕ) (cs ps : List ℕ) (cl : length cs ≡ 64) (pl : le
         ),
       )
 
-  pub set-up-refuses : inRange cores cards ≡ false → length cs′ ≡ length (take 0 cs) → length ps′ ≡ length (take 0 ps)
+  pub set-up-refuses : sizesInRange cores cards ≡ false → length cs′ ≡ length (take 0 cs) → length ps′ ≡ length (take 0 ps)
       → left r cs′ ps′ ≡ setup cores cards (take 0 cs) (take 0 ps) → Done cores cards r (cs′ ++ drop 0 cs) (ps′ ++ drop 0 ps)
   set-up-refuses e cl′ pl′ s =
       let none = s ∙ refused cores cards (take 0 cs) (take 0 ps) e in

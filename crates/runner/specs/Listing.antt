@@ -1,10 +1,10 @@
 -- The listing of any list of bytes (document 01, 'Script and listing'). Assumes nothing.
 use Prim.Native.Nat.{ℕ, _+_, _*_}
-use mathlib.Core.Bool.{Bool, cond, _&&_}
+use mathlib.Core.Bool.{cond}
 use mathlib.Core.List.{List, [], _∷_, _++_}
-use lib.Dec.{ltb, leb}
+use lib.Dec.{ltb}
 use lib.ListN.{replicate}
-use Rattle.machine.specs.Record.{blank}
+use Rattle.machine.specs.Record.{blank, sizesInRange}
 use Rattle.machine.specs.Rule as Rule
 use Rattle.machine.specs.Rule.{World, Result, lent, rule, firstAhead, coreOf}
 use Rattle.machine.specs.declared.Answer.the-variants.{Refused}
@@ -25,13 +25,10 @@ use Rattle.listing.specs.Text.{heading, line}
 abbrev pub nothing : World
 nothing = lent blank [] []
 
-abbrev pub inRange : ℕ → ℕ → Bool
-inRange cores cards = ltb 0 cores && leb cores 16 && ltb 0 cards && leb cards 64
-
 -- setup is lent tables of the right length; out of range there are none, and it is refused whatever it is lent
 unfoldable pub setUp : ℕ → ℕ → Result
 setUp cores cards =
-    cond (inRange cores cards) (Rule.setup cores cards (replicate cards 0) (replicate (cores * cards) 0)) (Rule.setup cores cards [] [])
+    cond (sizesInRange cores cards) (Rule.setup cores cards (replicate cards 0) (replicate (cores * cards) 0)) (Rule.setup cores cards [] [])
 
 -- what a call of a script asks of the machine: setup, or one of the seven other calls
 pub data Request : Type 0 where

@@ -1,33 +1,31 @@
 -- The record and the tables say what the words say of the deeds so far: shown for a fresh setup and kept by every call that
 -- follows the rule; and each deed finds what Orderly.antt says. Assumes nothing.
-use mathlib.Core.Path.{_≡_, refl, sym, ap, ap₂, subst, _∙_}
-use mathlib.Core.Bool.{Bool, true, false, cond, not, _&&_, _||_, true≢false}
+use mathlib.Core.Path.{_≡_, refl, sym, ap, subst, _∙_}
+use mathlib.Core.Bool.{Bool, true, false, cond, _||_, true≢false}
 use mathlib.Core.List.{List, [], _∷_}
-use Prim.Native.Nat.{ℕ, zero, suc, _+_, _*_, _^_, _≤_, _<_}
+use Prim.Native.Nat.{ℕ, _+_, _*_, _≤_, _<_}
 use native.Mathlib.Nat.{zero-add}
 use native.Mathlib.Omega.{arith}
-use lib.Dec.{eqb, ltb}
+use lib.Dec.{eqb}
 use lib.ListN.{length, getD, set, length-set}
-use lib.Seq.{getD-set-same, getD-set-other, ext-getD}
-use borrow.Author.Tests.{eqb-true, eqb-false, eq-eqb, ne-eqb, ltb-true, ltb-false}
-use Rattle.machine.specs.declared.Machine.{Machine}
+use lib.Seq.{getD-set-same, getD-set-other}
+use borrow.Author.Tests.{eqb-true, eqb-false}
 use Rattle.machine.specs.declared.Core.{Core}
 use Rattle.machine.specs.declared.Job.{Job}
-use Rattle.machine.specs.declared.Answer.{Answer}
-use Rattle.machine.specs.declared.Answer.the-variants.{Begun, Value, Written, Waits, Committed, SetBack, Ended, Refused}
-use Rattle.machine.specs.Answers.{kind, values}
+use Rattle.machine.specs.declared.Answer.the-variants.{SetBack, Refused}
+use Rattle.machine.specs.Answers.{kind}
 use Rattle.machine.specs.Record.{noCore, coreAt, putCore}
 use Rattle.machine.specs.Rule as Rule
 use Rattle.machine.specs.Rule.{World, Call, Release, Begin, Read, Write, Commit, GiveUp, Finish, withMachine, withList, withSets}
 use Rattle.objset.specs.Objset.{has, added}
-use Rattle.machine.proofs.Case.{Core-ok, Lent-ok, Asks, asks-read, asks-write, asks-commit, Case, is-refused, is-released, is-begun, is-told, is-valued, is-written, is-waiting, is-through, is-ended, is-finished}
-use Rattle.machine.specs.Words.{Deed, begins, reads, writes, waits, commits, told, gives, other, amounts, inProgress, births, born, wrote, any, attempt, strikes, struck, setBacks}
+use Rattle.machine.proofs.Case.{Core-ok, Lent-ok, Asks, asks-read, asks-write, asks-commit}
+use Rattle.machine.specs.Words.{Deed, begins, reads, writes, waits, commits, told, gives, other, amounts, inProgress, births, wrote, any, attempt, strikes, setBacks}
 use Rattle.machine.specs.Serial.{effect, serial, version}
-use Rattle.machine.proofs.Run.Orderly.{Acting, Reading, Waiting, Committing, Allowed, Orderly}
-use Rattle.machine.proofs.Run.View.{View, view, further, Over, concerns, view-other, view-begins, view-reads, view-writes, view-waits, view-told, view-gives, view-commits, view-struck}
-use Rattle.machine.proofs.Run.Effects.{lastWrite, effect-long, effect-unwritten, effect-written}
+use Rattle.machine.proofs.Run.Orderly.{Acting, Allowed}
+use Rattle.machine.proofs.Run.View.{View, view, concerns, view-other, view-begins, view-reads, view-writes, view-waits, view-told, view-gives}
+use Rattle.machine.proofs.Run.Effects.{lastWrite, effect-unwritten, effect-written}
 use Rattle.machine.proofs.Run.Places.{slot-inside, slot-core, slot-object}
-use Rattle.machine.proofs.Run.CoreAgrees.{CoreAgrees, agrees-idle, agrees-list, agrees-read, agrees-write, agrees-struck, agrees-told, agrees-begun, meets-crosses, void-crosses}
+use Rattle.machine.proofs.Run.CoreAgrees.{CoreAgrees, agrees-idle, agrees-list, agrees-read, agrees-write, agrees-told, agrees-begun}
 
 pub record Agree (o : ℕ) (w : World) (h : List Deed) : Type 0 where
   pub cores-long : length (w .machine .core) ≡ 16

@@ -1,28 +1,26 @@
 -- A commit that goes through keeps the agreement: the committing core is over, the struck ones are aborted, the cards and the
 -- versions are the serial ones. Assumes nothing.
 use mathlib.Core.Path.{_≡_, refl, sym, ap, ap₂, subst, _∙_}
-use mathlib.Core.Bool.{Bool, true, false, cond, not, _&&_, _||_, true≢false}
+use mathlib.Core.Bool.{Bool, true, false, cond, not, _&&_, true≢false}
 use mathlib.Core.List.{List, [], _∷_}
-use Prim.Native.Nat.{ℕ, zero, suc, _+_, _*_, _≤_, _<_}
+use Prim.Native.Nat.{ℕ, _+_, _*_, _<_}
 use native.Mathlib.Nat.{zero-add}
 use native.Mathlib.Omega.{arith}
 use lib.Dec.{eqb, ltb}
 use lib.ListN.{length, getD, List·getD-eq-default}
 use lib.Seq.{ext-getD}
-use borrow.Author.Tests.{eqb-true, eqb-false, eq-eqb, ne-eqb, ltb-true, ltb-false, not-true}
-use Rattle.objset.specs.Objset.{has, some, meeting}
-use Rattle.objset.proofs.Laws.{one-some, both-left, both-right}
-use Rattle.machine.specs.declared.Machine.{Machine}
+use borrow.Author.Tests.{eqb-true, ne-eqb, ltb-true, ltb-false, not-true}
+use Rattle.objset.proofs.Laws.{both-left, both-right}
 use Rattle.machine.specs.declared.Core.{Core}
-use Rattle.machine.specs.Record.{noCore, coreAt, dataSet}
+use Rattle.machine.specs.Record.{noCore, coreAt}
 use Rattle.machine.specs.Rule as Rule
 use Rattle.machine.specs.Rule.{World}
-use Rattle.machine.proofs.Case.{Core-ok, Lent-ok}
-use Rattle.machine.specs.Words.{Deed, commits, inProgress, births, born, any, wrote, crosses, attempt, strikes, struck, setBacks}
+use Rattle.machine.proofs.Case.{Lent-ok, struck-conflicts, not-ahead}
+use Rattle.machine.specs.Words.{Deed, commits, inProgress, births, born, any, wrote, crosses, attempt, strikes, struck}
 use Rattle.machine.specs.Serial.{effect, serial, version}
 use Rattle.machine.proofs.Run.Orderly.{Committing}
 use Rattle.machine.proofs.Run.View.{View, view, Over, view-other, view-commits, view-struck}
-use Rattle.machine.proofs.Run.Effects.{lastWrite, effect-long, effect-unwritten, effect-written}
+use Rattle.machine.proofs.Run.Effects.{lastWrite, effect-long}
 use Rattle.machine.proofs.Entries.{cleared-at, cleared-long, changed-at, changed-long}
 use Rattle.machine.proofs.Run.CoreAgrees.{CoreAgrees, agrees-idle, agrees-struck, meets-crosses, void-crosses, eqb-sym}
 use Rattle.machine.proofs.Run.Order.{born-apart}
@@ -36,14 +34,9 @@ module _ {o : ℕ} {w : World} {h : List Deed} (a : Agree o w h) (c : ℕ) (ok :
   abbrev n : ℕ
   n = coreAt (w .machine) c .aborts
 
-  -- what becomes of card d's committed value
-  abbrev moved : ℕ → ℕ → ℕ
-  moved d v = getD (w .pending) (c * w .machine .objects + d) 0
-
   -- the record strikes core e where the words do
   record-strikes : (e : ℕ) → eqb c e ≡ false
-      → (coreAt (w .machine) e .active && meeting ws (dataSet (coreAt (w .machine) e)))
-      ≡ strikes (commits c n) h e
+      → Rule.isStruck ws (coreAt (w .machine) e) ≡ strikes (commits c n) h e
   record-strikes e q =
       ap₂ _&&_ (a .each-core e .same-going)
       (meets-crosses (coreAt (w .machine) c) (coreAt (w .machine) e) (view h c) (view h e) (a .each-core c) (a .each-core e))
@@ -68,7 +61,7 @@ module _ {o : ℕ} {w : World} {h : List Deed} (a : Agree o w h) (c : ℕ) (ok :
       agrees-idle (Rule.over (coreAt (w .machine) e)) (view (commits c n ∷ h) e) refl refl refl refl
       (subst (λ (i : ℕ). Over (view (commits c n ∷ h) i)) (eqb-true c e p) (view-commits h c n))
   left-at e false p =
-      go (coreAt (w .machine) e .active && meeting ws (dataSet (coreAt (w .machine) e))) (record-strikes e p)
+      go (Rule.isStruck ws (coreAt (w .machine) e)) (record-strikes e p)
     where
       go : (q : Bool) → q ≡ strikes (commits c n) h e
           → CoreAgrees (cond q (Rule.aborted (coreAt (w .machine) e)) (coreAt (w .machine) e)) (view (commits c n ∷ h) e)
@@ -99,20 +92,20 @@ module _ {o : ℕ} {w : World} {h : List Deed} (a : Agree o w h) (c : ℕ) (ok :
           rw (past′, view-other (commits c n) h e other (rw (other, idle) refl)) (rw past at (a .each-core e))
 
   -- the cards are the serial ones
-  cards-left : Rule.changed ws moved 0 (w .committed)
+  cards-left : Rule.changed ws (Rule.moved w c) 0 (w .committed)
       ≡ effect (attempt h c) (serial o h)
   unfolding Rule.valueRead
   cards-left =
-      ext-getD 0 (Rule.changed ws moved 0 (w .committed)) (effect (attempt h c) (serial o h))
-      (changed-long ws moved 0 (w .committed)
+      ext-getD 0 (Rule.changed ws (Rule.moved w c) 0 (w .committed)) (effect (attempt h c) (serial o h))
+      (changed-long ws (Rule.moved w c) 0 (w .committed)
       ∙ ap length (a .same-committed) ∙ sym (effect-long (attempt h c) (serial o h)))
       (λ d l. at d (omega (arith, simp changed-long at l)))
     where
       at : (d : ℕ) → d < length (w .committed)
-          → getD (Rule.changed ws moved 0 (w .committed)) d 0
+          → getD (Rule.changed ws (Rule.moved w c) 0 (w .committed)) d 0
           ≡ getD (effect (attempt h c) (serial o h)) d 0
       at d l =
-          changed-at ws moved (w .committed) d l
+          changed-at ws (Rule.moved w c) (w .committed) d l
           ∙ read-alone a c d ok (rw (← ok .committed-long) l)
 
   -- the versions count the commits that wrote
@@ -161,7 +154,6 @@ module _ {o : ℕ} {w : World} {h : List Deed} (a : Agree o w h) (c : ℕ) (ok :
 
   -- nobody ahead is in conflict, so whoever is struck is later
   pub finds-commits : coreAt (w .machine) c .zombie ≡ false → Rule.blocked (w .machine) c ≡ false → Committing h c n
-  unfolding Rule.blocked Rule.contender
   finds-commits z free =
       record {
         acting = acting a ok z;
@@ -178,23 +170,12 @@ module _ {o : ℕ} {w : World} {h : List Deed} (a : Agree o w h) (c : ℕ) (ok :
           go false q =
               absurd (true≢false (sym p ∙ ap (λ (k : Core). k .active) (List·getD-eq-default (w .machine .core) noCore (omega (arith, ltb-false b 16 q, a .cores-long)))))
 
-      -- a conflicting transaction has no smaller ticket
-      not-ahead : (b : ℕ) → coreAt (w .machine) b .active ≡ true → meeting ws (dataSet (coreAt (w .machine) b)) ≡ true
-          → ltb (coreAt (w .machine) b .ticket) (coreAt (w .machine) c .ticket) ≡ false
-      not-ahead b p m = go (ltb (coreAt (w .machine) b .ticket) (coreAt (w .machine) c .ticket)) refl
-        where
-          go : (q : Bool) → ltb (coreAt (w .machine) b .ticket) (coreAt (w .machine) c .ticket) ≡ q → q ≡ false
-          go true q = sym (one-some 16 (Rule.contender (w .machine) c) b (few b p) (ap₂ _&&_ (ap₂ _&&_ p q) (ap (λ (x : Bool). x || meeting (coreAt (w .machine) b .writes) (dataSet (coreAt (w .machine) c))) m))) ∙ free
-          go false q = refl
-
       later : (b : ℕ) → strikes (commits c n) h b ≡ true → born h c < born h b
       later b s =
           let other : eqb c b ≡ false = not-true (eqb c b) (both-left (not (eqb c b)) (inProgress h b) (both-left (not (eqb c b) && inProgress h b) _ s)) in
           let going : inProgress h b ≡ true = both-right (not (eqb c b)) (inProgress h b) (both-left (not (eqb c b) && inProgress h b) _ s) in
           let here : inProgress h c ≡ true = sym (a .each-core c .same-going) ∙ ok .active in
           let active : coreAt (w .machine) b .active ≡ true = a .each-core b .same-going ∙ going in
-          let meets : meeting ws (dataSet (coreAt (w .machine) b)) ≡ true =
-          both-right (coreAt (w .machine) b .active) _ (record-strikes b other ∙ s) in
-          let order : ltb (coreAt (w .machine) b .ticket) (coreAt (w .machine) c .ticket) ≡ false = not-ahead b active meets in
-          let apart = born-apart h c b here going other in
-          omega (arith, ltb-false (coreAt (w .machine) b .ticket) (coreAt (w .machine) c .ticket) order, a .each-core b .same-order going, a .each-core c .same-order here, apart)
+          let clash = struck-conflicts (coreAt (w .machine) c) (coreAt (w .machine) b) (record-strikes b other ∙ s) in
+          let order = not-ahead (w .machine) c b free (few b active) active clash in
+          omega (arith, order, a .each-core b .same-order going, a .each-core c .same-order here, born-apart h c b here going other)

@@ -6,9 +6,8 @@ use mathlib.Core.List.{List, [], _∷_}
 use Prim.Native.Nat.{ℕ, zero, suc, _≤_, _<_}
 use native.Mathlib.Omega.{arith}
 use lib.Dec.{eqb}
-use lib.ListN.{length, getD, set, length-set}
-use lib.Seq.{getD-set-other}
-use borrow.Author.Tests.{eqb-true, eqb-false, eq-eqb}
+use lib.ListN.{length, getD, set}
+use borrow.Author.Tests.{eqb-true, eq-eqb}
 use Rattle.objset.proofs.Laws.{one-some, both-left, both-right}
 use Rattle.machine.specs.Words.{Deed, reads, writes, any, touched, wrote, crosses}
 use Rattle.machine.specs.Serial.{effect, replays, stood}

@@ -1,21 +1,21 @@
 -- The record of one core says what the words say of it. Assumes nothing.
 use mathlib.Core.Path.{_≡_, refl, sym, ap, ap₂, _∙_, fun-ext}
-use mathlib.Core.Bool.{Bool, true, false, cond, not, _&&_, _||_, true≢false, false≢true}
-use mathlib.Core.List.{List, [], _∷_}
-use Prim.Native.Nat.{ℕ, zero, suc, _+_, _^_, _≤_, _<_}
+use mathlib.Core.Bool.{Bool, true, false, cond, _&&_, _||_, or-comm, or-assoc, true≢false}
+use mathlib.Core.List.{List, []}
+use Prim.Native.Nat.{ℕ, _+_, _^_, _<_}
 use native.Mathlib.Nat.{zero-add}
 use native.Mathlib.Omega.{arith}
-use lib.Dec.{eqb, ltb}
+use lib.Dec.{eqb}
 use borrow.Author.Tests.{eqb-true, eqb-false, eq-eqb, ne-eqb}
-use Rattle.objset.specs.Objset.{has, some, joined, added, meeting}
+use Rattle.objset.specs.Objset.{has, some, added, meeting}
 use Rattle.objset.proofs.Digits.{has-zero}
-use Rattle.objset.proofs.Laws.{some-one, one-some, both-left, both-right, has-joined, joined-fits, has-added, added-fits}
+use Rattle.objset.proofs.Laws.{some-one, both-right, has-joined, has-added, added-fits}
 use Rattle.machine.specs.declared.Core.{Core}
 use Rattle.machine.specs.declared.Job.{Job}
-use Rattle.machine.specs.Record.{noCore, dataSet, idle}
+use Rattle.machine.specs.Record.{dataSet}
 use Rattle.machine.specs.Rule.{withList, withSets, unmarked, aborted}
-use Rattle.machine.specs.Words.{Deed, begins, reads, writes, waits, commits, told, gives, other, touches, stores, any, touched, wrote, crosses, inProgress, attempt, strikes}
-use Rattle.machine.proofs.Run.View.{View, view, further, Over}
+use Rattle.machine.specs.Words.{Deed, reads, writes, any, touched, wrote, crosses}
+use Rattle.machine.proofs.Run.View.{View, further, Over}
 
 pub record CoreAgrees (k : Core) (v : View) : Type 0 where
   pub same-going : k .active ≡ v .going
@@ -45,23 +45,10 @@ agrees-idle k v p z r w o =
     }
 
 mid-first : (p q r : Bool) → ((p || q) || r) ≡ (q || (p || r))
-mid-first true true r = refl
-mid-first true false r = refl
-mid-first false q r = refl
+mid-first p q r = ap (λ b. b || r) (or-comm p q) ∙ or-assoc q p r
 
 last-first : (p q r : Bool) → (p || (q || r)) ≡ (r || (p || q))
-last-first true q true = refl
-last-first true q false = refl
-last-first false true true = refl
-last-first false true false = refl
-last-first false false true = refl
-last-first false false false = refl
-
-or-comm : (p q : Bool) → (p || q) ≡ (q || p)
-or-comm true true = refl
-or-comm true false = refl
-or-comm false true = refl
-or-comm false false = refl
+last-first p q r = sym (or-assoc p q r) ∙ or-comm (p || q) r
 
 pub eqb-sym : (a b : ℕ) → eqb a b ≡ eqb b a
 eqb-sym a b = go (eqb a b) refl

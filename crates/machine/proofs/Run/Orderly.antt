@@ -1,7 +1,7 @@
 -- What each deed of a run finds when it happens, said of the deeds alone: the bridge between the record, which shows it
 -- (Agreement.antt), and the claims, which follow from it and never look at the record. Assumes nothing.
 use mathlib.Core.Path.{_≡_}
-use mathlib.Core.Bool.{Bool, true, false}
+use mathlib.Core.Bool.{true, false}
 use mathlib.Core.List.{List, [], _∷_}
 use Prim.Native.Nat.{ℕ, suc, _<_}
 use lib.ListN.{getD}

@@ -1,30 +1,28 @@
 -- Every call that follows the rule finds what Orderly.antt says and keeps the agreement; so does a whole run after an accepted
 -- setup. Assumes nothing.
 use mathlib.Core.Path.{_≡_, refl, sym, ap, ap₂, _∙_}
-use mathlib.Core.Bool.{Bool, true, false, cond, not, _&&_, _||_, true≢false}
+use mathlib.Core.Bool.{Bool, true, false, cond, _||_, true≢false}
 use mathlib.Core.List.{List, [], _∷_}
-use Prim.Native.Nat.{ℕ, zero, suc, _+_, _*_, _≤_, _<_}
+use Prim.Native.Nat.{ℕ, suc, _+_, _<_}
 use native.Mathlib.Numerals.{one-add}
 use native.Mathlib.Omega.{arith}
-use lib.Dec.{eqb, ltb, leb}
-use lib.ListN.{length, getD, replicate, length-replicate, getD-replicate, List·getD-eq-default}
-use borrow.Author.Tests.{ltb-true, ltb-false, leb-true, eqb-false, not-false}
-use Rattle.machine.specs.declared.Core.{Core}
+use lib.Dec.{ltb}
+use lib.ListN.{replicate, getD-replicate, List·getD-eq-default}
+use borrow.Author.Tests.{ltb-true, ltb-false}
 use Rattle.machine.specs.declared.Answer.{Answer}
-use Rattle.machine.specs.declared.Answer.the-variants.{Ready, Begun, Value, Written, Waits, Committed, SetBack, Ended, Refused}
 use Rattle.machine.specs.Answers.{kind, values}
-use Rattle.machine.specs.Record.{noCore, coreAt, blankCore, blank, machineOf}
+use Rattle.machine.specs.Record.{noCore, coreAt, blankCore, machineOf, sizesInRange}
 use Rattle.machine.specs.Rule as Rule
 use Rattle.machine.specs.Rule.{World, Call}
 use Rattle.machine.proofs.Case.{Case, is-refused, is-released, is-begun, is-told, is-valued, is-written, is-waiting, is-through, is-ended, is-finished, contends, case-of}
-use Rattle.objset.proofs.Laws.{both-left, both-right}
-use Rattle.machine.specs.Words.{Event, Deed, begins, reads, writes, waits, commits, told, gives, other, amounts, deeds, inProgress, births, born, any, wrote, conflict, crosses, attempt, struck, setBacks}
+use Rattle.machine.specs.Words.{Event, Deed, amounts, deeds, inProgress, births, born, any, wrote, conflict, attempt, struck, setBacks}
 use Rattle.machine.specs.Serial.{serial, version}
 use Rattle.machine.specs.Claims.{Run, fresh, then}
+use Rattle.machine.proofs.Sound.Passed.{in-range}
 use Rattle.machine.proofs.Run.Orderly.{Allowed, Orderly}
 use Rattle.machine.proofs.Run.View.{view}
 use Rattle.machine.proofs.Run.CoreAgrees.{CoreAgrees, agrees-idle, meets-crosses}
-use Rattle.machine.proofs.Run.Agreement.{Agree, Step, inside, acting, refused-other, told-amounts, agree-other, step-list, step-told, step-read, read-alone, step-write, step-waits, step-gives, step-begins}
+use Rattle.machine.proofs.Run.Agreement.{Agree, inside, acting, refused-other, told-amounts, agree-other, step-list, step-told, step-read, read-alone, step-write, step-waits, step-gives, step-begins}
 use Rattle.machine.proofs.Run.AgreementCommit.{step-commits, finds-commits}
 
 -- the core that waits names has an earlier transaction in conflict
@@ -70,59 +68,21 @@ step a (is-finished {c = c} ok job idle) = (tt, step-list a c _ _ ok)
 
 -- ---- after an accepted setup
 
--- what an accepted setup found and gives
-pub record Fresh (cores objects : ℕ) (w₀ : World) : Type 0 where
-  pub cores-few : cores ≤ 16
-  pub objects-few : objects ≤ 64
-  pub world-is : w₀ ≡ record { machine = machineOf cores objects; committed = replicate objects 0; pending = replicate (cores * objects) 0 }
-
-not-refused : (n : ℕ) → Refused n ≡ Ready → ⊥
-unfolding kind
-not-refused n e = absurd (eqb-false 11 0 refl (ap kind e))
-
-pub setup-fresh : (cores objects : ℕ) (committed pending : List ℕ) → Rule.setup cores objects committed pending .answer ≡ Ready
-    → Fresh cores objects (Rule.setup cores objects committed pending .world)
-unfolding Rule.setup Rule.first Rule.unlessLent
-setup-fresh cores objects committed pending ready =
-    go (ltb 0 cores && leb cores 16 && ltb 0 objects && leb objects 64) refl (Rule.misfit cores objects committed pending) ready
-  where
-    given : World
-    given = record { machine = blank; committed = committed; pending = pending }
-
-    made : World
-    made = record { machine = machineOf cores objects; committed = replicate objects 0; pending = replicate (cores * objects) 0 }
-
-    result : Bool → Bool → Rule.Result
-    result r f = Rule.unlessLent (cond (not r) 1 (cond f 3 0)) given (record { answer = Ready; world = made })
-
-    go : (r : Bool) → (ltb 0 cores && leb cores 16 && ltb 0 objects && leb objects 64) ≡ r → (f : Bool) → result r f .answer ≡ Ready → Fresh cores objects (result r f .world)
-    go true r true e = absurd (not-refused 3 e)
-    go true r false e =
-        let three = both-left (ltb 0 cores && leb cores 16 && ltb 0 objects) (leb objects 64) r in
-        let two = both-left (ltb 0 cores && leb cores 16) (ltb 0 objects) three in
-        record {
-          cores-few = leb-true cores 16 (both-right (ltb 0 cores) (leb cores 16) two);
-          objects-few = leb-true objects 64 (both-right (ltb 0 cores && leb cores 16 && ltb 0 objects) (leb objects 64) r);
-          world-is = refl;
-        }
-    go false r f e = absurd (not-refused 1 e)
-
-pub agree-fresh : (cores objects : ℕ) (w₀ : World) → Fresh cores objects w₀ → Agree objects w₀ []
+pub agree-fresh : (cores objects : ℕ) → sizesInRange cores objects ≡ true → Agree objects (Rule.newWorld cores objects) []
 unfolding inProgress births attempt serial version wrote any
-agree-fresh cores objects w₀ f =
-    rw (f .world-is)
-    (record {
+agree-fresh cores objects range =
+    record {
       cores-long = refl;
-      cores-few = f .cores-few;
-      objects-few = f .objects-few;
+      cores-few = in-range cores objects range .1;
+      objects-few = in-range cores objects range .3;
       same-objects = refl;
       versions-long = refl;
       same-tickets = refl;
       each-core = λ c. go c (ltb c 16) refl;
       same-committed = refl;
       same-pending = λ c d l t. absurd (true≢false (sym t));
-      same-versions = λ d l. getD-replicate 64 d 0 0 (omega (arith, f .objects-few));
-    })
+      same-versions = λ d l. getD-replicate 64 d 0 0 (omega (arith, in-range cores objects range .3));
+    }
   where
     go : (c : ℕ) (q : Bool) → ltb c 16 ≡ q → CoreAgrees (coreAt (machineOf cores objects) c) (view [] c)
     go c true q = rw (getD-replicate 16 c blankCore noCore (ltb-true c 16 q)) (agrees-idle blankCore (view [] c) refl refl refl refl (refl, refl))

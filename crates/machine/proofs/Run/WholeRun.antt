@@ -13,14 +13,14 @@ use Rattle.machine.specs.Record.{coreAt}
 use Rattle.machine.specs.Rule as Rule
 use Rattle.machine.specs.Rule.{World, lent, left, Call, Release, Begin, Read, Write, Commit, GiveUp, Finish, rule}
 use Rattle.machine.specs.Follows.{Follows}
-use Rattle.machine.proofs.Case.{Case, is-refused, is-released, is-begun, is-told, is-valued, is-written, is-waiting, is-through, is-ended, is-finished, case-of}
+use Rattle.machine.proofs.Case.{Case, is-refused, is-released, is-begun, is-told, is-valued, is-written, is-waiting, is-through, is-ended, is-finished, case-of, setup-case}
 use Rattle.machine.specs.Words.{Event, Deed, deeds}
 use Rattle.machine.specs.Serial.{serial, version}
 use Rattle.machine.specs.Claims.{Run, fresh, then, worked, ByTheRule, Claim, EveryRun}
 use Rattle.machine.proofs.Run.Served.{served}
 use Rattle.machine.proofs.Run.Serially.{serially}
 use Rattle.machine.proofs.Run.Agreement.{Agree}
-use Rattle.machine.proofs.Run.Steps.{setup-fresh, agree-fresh, run-agrees}
+use Rattle.machine.proofs.Run.Steps.{agree-fresh, run-agrees}
 
 -- ---- a run cut in two
 
@@ -106,14 +106,15 @@ pub whole-run : (cores objects : ℕ) (committed pending : List ℕ) → Rule.se
     → {es : List Event} {w : World} → Run (Rule.setup cores objects committed pending .world) es w
     → Claim (Rule.setup cores objects committed pending .world) es w
 whole-run cores objects committed pending ready {es} {w} run =
-    let new = setup-fresh cores objects committed pending ready in
-    let a = agree-fresh cores objects _ new in
+    let new = setup-case cores objects committed pending ready in
+    let a : Agree objects (Rule.setup cores objects committed pending .world) [] =
+    subst (λ (u : World). Agree objects u []) (sym (new .1)) (agree-fresh cores objects (new .0)) in
     let o = run-agrees a run .1 in
     let same = a .same-objects in
     record {
       by-the-rule = by-the-rule run;
       served = served objects (deeds es) o;
-      serially = rw same (serially objects (deeds es) (new .objects-few) o);
+      serially = rw same (serially objects (deeds es) (a .objects-few) o);
       same-cards =
           λ late early p.
           let r = run-through late early run p in

@@ -1,41 +1,34 @@
 -- A commit that goes through keeps the standing rules and the shape of a record: it strikes only later transactions, and it leaves,
 -- so the sum of setbacks and earlier tickets rises for none. Assumes nothing.
 use mathlib.Core.Path.{_≡_, refl, sym, subst, _∙_}
-use mathlib.Core.Bool.{Bool, true, false, cond, true≢false}
+use mathlib.Core.Bool.{Bool, true, false, cond}
 use mathlib.Core.List.{List}
 use Prim.Native.Nat.{ℕ, _+_, _≤_, _<_}
 use native.Mathlib.Omega.{arith}
 use lib.Dec.{eqb, ltb}
 use lib.ListN.{getD}
-use borrow.Author.Tests.{ltb-false, lt-ltb, eqb-true, eqb-false}
-use Rattle.objset.specs.Objset.{has, meeting}
-use Rattle.objset.proofs.Laws.{one-some}
+use borrow.Author.Tests.{lt-ltb, eqb-true, eqb-false}
+use Rattle.objset.specs.Objset.{has}
+use Rattle.objset.proofs.Laws.{both-left}
 use Rattle.machine.specs.declared.Machine.{Machine}
 use Rattle.machine.specs.declared.Core.{Core}
-use Rattle.machine.specs.Record.{noCore, coreAt, dataSet}
-use Rattle.machine.specs.Rule.{contender, blocked, struck, over, cleared, changed, through}
+use Rattle.machine.specs.Record.{noCore, coreAt}
+use Rattle.machine.specs.Rule.{blocked, isStruck, struck, over, cleared, changed, through}
+use Rattle.machine.proofs.Case.{struck-conflicts, not-ahead}
 use Rattle.machine.proofs.Sound.Turns.{Turns, turns-left}
 use Rattle.machine.specs.Inside.{Formed-core, Formed}
 use Rattle.machine.proofs.Sound.Standing.{Tidy, Standing}
-use Rattle.machine.proofs.Sound.Cores.{idle-formed, over-tidy, struck-active, struck-ticket, struck-count, struck-aborts, struck-tidy, struck-formed}
+use Rattle.machine.proofs.Sound.Cores.{idle-formed, over-tidy, struck-keeps, struck-aborts, struck-tidy, struck-formed}
 use Rattle.machine.proofs.Entries.{cleared-at, cleared-long, changed-at, changed-long}
 use Rattle.machine.proofs.Sound.OneCore.{Whole}
 
 -- the transaction of core c has no contender, so each one that its commit strikes has a later ticket
 pub struck-later : (m : Machine) (c e : ℕ) → Standing m → c < 16 → e < 16 → (e ≡ c → ⊥) → blocked m c ≡ false → coreAt m c .active ≡ true
-    → coreAt m e .active ≡ true → meeting (coreAt m c .writes) (dataSet (coreAt m e)) ≡ true
-    → ltb (coreAt m c .ticket) (coreAt m e .ticket) ≡ true
-unfolding blocked
-struck-later m c e s lc le d free on also meets = go (ltb (coreAt m e .ticket) (coreAt m c .ticket)) refl
-  where
-    clash : ltb (coreAt m e .ticket) (coreAt m c .ticket) ≡ true → contender m c e ≡ true
-    clash t = unfold contender in rw (also, t, meets)
-
-    go : (b : Bool) → ltb (coreAt m e .ticket) (coreAt m c .ticket) ≡ b → ltb (coreAt m c .ticket) (coreAt m e .ticket) ≡ true
-    go true t = absurd (true≢false (sym (one-some 16 (contender m c) e le (clash t)) ∙ free))
-    go false t =
-        lt-ltb (coreAt m c .ticket) (coreAt m e .ticket)
-        (omega (arith, ltb-false (coreAt m e .ticket) (coreAt m c .ticket) t, s .turns .differ e c le lc d also on))
+    → isStruck (coreAt m c .writes) (coreAt m e) ≡ true → ltb (coreAt m c .ticket) (coreAt m e .ticket) ≡ true
+struck-later m c e s lc le d free on hit =
+    let also = both-left (coreAt m e .active) _ hit in
+    let behind = not-ahead m c e free le also (struck-conflicts (coreAt m c) (coreAt m e) hit) in
+    lt-ltb (coreAt m c .ticket) (coreAt m e .ticket) (omega (arith, behind, s .turns .differ e c le lc d also on))
 
 module _ (m : Machine) (c : ℕ) (here : c < m .cores) (w : Whole m) where
   f : Formed m
@@ -91,8 +84,8 @@ module _ (m : Machine) (c : ℕ) (here : c < m .cores) (w : Whole m) where
       subst (λ (n : ℕ). Turns (m .cores) (m .tickets) n (λ e. after e .active) (λ e. after e .ticket) (λ e. after e .aborts)) (omega arith)
       (turns-left (m .cores) (m .tickets) (m .commits + m .«give_ups») (λ e. coreAt m e .active) (λ e. after e .active)
       (λ e. coreAt m e .ticket) (λ e. after e .ticket) (λ e. coreAt m e .aborts) (λ e. after e .aborts) c inside
-      (after-each (λ e x. (e ≡ c → ⊥) → x .active ≡ coreAt m e .active) (λ d. absurd (d refl)) (λ e l o d. struck-active ws (coreAt m e)))
-      (after-each (λ e x. (e ≡ c → ⊥) → x .ticket ≡ coreAt m e .ticket) (λ d. absurd (d refl)) (λ e l o d. struck-ticket ws (coreAt m e)))
+      (after-each (λ e x. (e ≡ c → ⊥) → x .active ≡ coreAt m e .active) (λ d. absurd (d refl)) (λ e l o d. struck-keeps (λ (x : Core). x .active) ws (coreAt m e) refl))
+      (after-each (λ e x. (e ≡ c → ⊥) → x .ticket ≡ coreAt m e .ticket) (λ d. absurd (d refl)) (λ e l o d. struck-keeps (λ (x : Core). x .ticket) ws (coreAt m e) refl))
       (s .turns) on
       (after-each (λ e x. e ≡ c → x .active ≡ false) (λ p. refl) (λ e l o p. absurd (o p)) c inside refl)
       (after-each (λ e x. (e ≡ c → ⊥) → x .aborts ≤ coreAt m e .aborts + cond (ltb (coreAt m c .ticket) (coreAt m e .ticket)) 1 0)
@@ -122,7 +115,7 @@ module _ (m : Machine) (c : ℕ) (here : c < m .cores) (w : Whole m) where
               (λ e l o. struck-tidy (m .objects) ws (coreAt m e) (s .tidy e l) (f .formed-core e l));
           lacked-jobs =
               after-each (λ e x. m .cores ≤ e → x .count ≡ 0) (λ h. absurd (omega arith))
-              (λ e l o h. struck-count ws (coreAt m e) ∙ s .lacked-jobs e l h);
+              (λ e l o h. struck-keeps (λ (x : Core). x .count) ws (coreAt m e) refl ∙ s .lacked-jobs e l h);
           lacked-objects = version-lacked;
           turns = after-turns free on;
           versions-bounded = version-bounded;

@@ -1,6 +1,6 @@
 -- What each call makes of a core keeps the rules that a core keeps by itself, and its shape. Assumes nothing.
 use mathlib.Core.Path.{_≡_, refl, sym, ap, _∙_}
-use mathlib.Core.Bool.{Bool, true, false, cond, _&&_, _||_, true≢false}
+use mathlib.Core.Bool.{Bool, true, false, cond, _||_, true≢false}
 use mathlib.Core.List.{List}
 use Prim.Native.Nat.{ℕ, _+_, _-_, _^_, _≤_, _<_}
 use native.Mathlib.Omega.{arith}
@@ -8,13 +8,13 @@ use lib.Dec.{eqb}
 use lib.ListN.{getD, set, length, length-set}
 use lib.Seq.{getD-set-other}
 use borrow.Author.Tests.{eqb-true}
-use Rattle.objset.specs.Objset.{has, added, meeting}
+use Rattle.objset.specs.Objset.{has, added}
 use Rattle.objset.proofs.Digits.{has-zero}
-use Rattle.objset.proofs.Laws.{both-left, both-right, has-added}
+use Rattle.objset.proofs.Laws.{both-left, has-added}
 use Rattle.machine.specs.declared.Core.{Core}
 use Rattle.machine.specs.declared.Job.{Job}
-use Rattle.machine.specs.Record.{noJob, jobAt, idle, dataSet, running}
-use Rattle.machine.specs.Rule.{withList, withJob, withSets, aborted, struck, over, without}
+use Rattle.machine.specs.Record.{noJob, jobAt, idle, running}
+use Rattle.machine.specs.Rule.{withList, withJob, attempting, unmarked, withSets, aborted, isStruck, struck, over, without}
 use Rattle.machine.specs.Inside.{Formed-core}
 use Rattle.machine.proofs.Sound.Standing.{Clear, Tidy}
 use Rattle.machine.proofs.Sound.Jobs.{least-listed, least-first, without-long, without-unused}
@@ -23,21 +23,6 @@ use Rattle.machine.proofs.Sound.Jobs.{least-listed, least-first, withou
 abbrev pub withTransaction : Core → ℕ → Core
 withTransaction k t =
     record { jobs = k .jobs; count = k .count; active = true; owner = running k; ticket = t; aborts = 0; zombie = false; reads = 0; writes = 0 }
-
--- the core without its mark
-abbrev pub unmarked : Core → Core
-unmarked k =
-    record {
-      jobs = k .jobs;
-      count = k .count;
-      active = k .active;
-      owner = k .owner;
-      ticket = k .ticket;
-      aborts = k .aborts;
-      zombie = false;
-      reads = k .reads;
-      writes = k .writes;
-    }
 
 none-within : (objects d : ℕ) → d < 64 → has 0 d ≡ true → d < objects
 none-within objects d l p = absurd (true≢false (sym p ∙ has-zero d))
@@ -130,18 +115,24 @@ module _ (objects : ℕ) (k : Core) (s : Tidy objects k) (f : Formed-core k) whe
   pub begun-formed : (t : ℕ) → Formed-core (withTransaction k t)
   begun-formed t = record { jobs-long = f .jobs-long; reads-fit = omega arith; writes-fit = omega arith }
 
-  pub told-tidy : k .active ≡ true → Tidy objects (unmarked k)
-  told-tidy on =
+  -- a transaction in progress with another ticket, other setbacks, another mark and other sets; a marked one has empty sets
+  attempting-tidy : (t n : ℕ) (z : Bool) (rs ws : ℕ) → k .active ≡ true → (z ≡ true → (rs ≡ 0) × (ws ≡ 0))
+      → ((d : ℕ) → d < 64 → has rs d ≡ true → d < objects) → ((d : ℕ) → d < 64 → has ws d ≡ true → d < objects)
+      → Tidy objects (attempting k t n z rs ws)
+  attempting-tidy t n z rs ws on empty hr hw =
       record {
-        reads-within = s .reads-within;
-        writes-within = s .writes-within;
+        reads-within = hr;
+        writes-within = hw;
         owner-listed = s .owner-listed;
         idle-clear = λ a. absurd (true≢false (sym on ∙ a));
-        zombie-empty = λ z. absurd (true≢false (sym z));
+        zombie-empty = empty;
         at-most-eight = s .at-most-eight;
         unused-jobs = s .unused-jobs;
         owner-first = s .owner-first;
       }
+
+  pub told-tidy : k .active ≡ true → Tidy objects (unmarked k)
+  told-tidy on = attempting-tidy _ _ false _ _ on (λ z. absurd (true≢false (sym z))) (s .reads-within) (s .writes-within)
 
   pub told-formed : Formed-core (unmarked k)
   told-formed = record { jobs-long = f .jobs-long; reads-fit = f .reads-fit; writes-fit = f .writes-fit }
@@ -149,17 +140,7 @@ module _ (objects : ℕ) (k : Core) (s : Tidy objects k) (f : Formed-core k) whe
   -- new sets within the cards, for a transaction that is not marked
   pub sets-tidy : (rs ws : ℕ) → k .active ≡ true → k .zombie ≡ false → ((d : ℕ) → d < 64 → has rs d ≡ true → d < objects)
       → ((d : ℕ) → d < 64 → has ws d ≡ true → d < objects) → Tidy objects (withSets k rs ws)
-  sets-tidy rs ws on free hr hw =
-      record {
-        reads-within = hr;
-        writes-within = hw;
-        owner-listed = s .owner-listed;
-        idle-clear = λ a. absurd (true≢false (sym on ∙ a));
-        zombie-empty = λ z. absurd (true≢false (sym z ∙ free));
-        at-most-eight = s .at-most-eight;
-        unused-jobs = s .unused-jobs;
-        owner-first = s .owner-first;
-      }
+  sets-tidy rs ws on free = attempting-tidy _ _ _ rs ws on (λ z. absurd (true≢false (sym z ∙ free)))
 
   pub sets-formed : (rs ws : ℕ) → rs < 2 ^ 64 → ws < 2 ^ 64 → Formed-core (withSets k rs ws)
   sets-formed rs ws hr hw = record { jobs-long = f .jobs-long; reads-fit = hr; writes-fit = hw }
@@ -169,16 +150,7 @@ module _ (objects : ℕ) (k : Core) (s : Tidy objects k) (f : Formed-core k) whe
 
   pub aborted-tidy : k .active ≡ true → Tidy objects (aborted k)
   aborted-tidy on =
-      record {
-        reads-within = none-within objects;
-        writes-within = none-within objects;
-        owner-listed = s .owner-listed;
-        idle-clear = λ a. absurd (true≢false (sym on ∙ a));
-        zombie-empty = λ z. (refl, refl);
-        at-most-eight = s .at-most-eight;
-        unused-jobs = s .unused-jobs;
-        owner-first = s .owner-first;
-      }
+      attempting-tidy _ _ _ (aborted k .reads) (aborted k .writes) on (λ z. (refl, refl)) (none-within objects) (none-within objects)
 
   pub finished-tidy : (p : ℕ) → p < k .count → Tidy objects (idle (without (k .jobs) p) (k .count - 1))
   finished-tidy p h =
@@ -204,52 +176,28 @@ added-within objects s d fits few card inside e l p = go (has s e) refl (eqb e d
 
 -- ---- a core at another's commit
 
-pub struck-active : (ws : ℕ) (k : Core) → struck ws k .active ≡ k .active
+-- it is set back, or as it was
+pub struck-either : (P : Core → Type 0) (ws : ℕ) (k : Core) → (isStruck ws k ≡ true → P (aborted k)) → P k → P (struck ws k)
 unfolding struck
-struck-active ws k = go (k .active && meeting ws (dataSet k))
+struck-either P ws k hit missed = go (isStruck ws k) refl
   where
-    go : (b : Bool) → cond b (aborted k) k .active ≡ k .active
-    go true = refl
-    go false = refl
+    go : (b : Bool) → isStruck ws k ≡ b → P (cond b (aborted k) k)
+    go true e = hit e
+    go false e = missed
 
-pub struck-ticket : (ws : ℕ) (k : Core) → struck ws k .ticket ≡ k .ticket
-unfolding struck
-struck-ticket ws k = go (k .active && meeting ws (dataSet k))
-  where
-    go : (b : Bool) → cond b (aborted k) k .ticket ≡ k .ticket
-    go true = refl
-    go false = refl
-
-pub struck-count : (ws : ℕ) (k : Core) → struck ws k .count ≡ k .count
-unfolding struck
-struck-count ws k = go (k .active && meeting ws (dataSet k))
-  where
-    go : (b : Bool) → cond b (aborted k) k .count ≡ k .count
-    go true = refl
-    go false = refl
+-- what a set back keeps is kept
+pub struck-keeps : {A : Type 0} (part : Core → A) (ws : ℕ) (k : Core) → part (aborted k) ≡ part k → part (struck ws k) ≡ part k
+struck-keeps part ws k e = struck-either (λ x. part x ≡ part k) ws k (λ p. e) refl
 
 -- the setbacks rise by at most one, and only where those whom the commit strikes have a later ticket
-pub struck-aborts : (ws : ℕ) (k : Core) (later : Bool) → (k .active ≡ true → meeting ws (dataSet k) ≡ true → later ≡ true)
+pub struck-aborts : (ws : ℕ) (k : Core) (later : Bool) → (isStruck ws k ≡ true → later ≡ true)
     → struck ws k .aborts ≤ k .aborts + cond later 1 0
-unfolding struck
-struck-aborts ws k later h = go (k .active && meeting ws (dataSet k)) refl
-  where
-    go : (b : Bool) → (k .active && meeting ws (dataSet k)) ≡ b → cond b (aborted k) k .aborts ≤ k .aborts + cond later 1 0
-    go true e = rw (h (both-left (k .active) (meeting ws (dataSet k)) e) (both-right (k .active) (meeting ws (dataSet k)) e)) (omega arith)
-    go false e = omega arith
+struck-aborts ws k later h =
+    struck-either (λ x. x .aborts ≤ k .aborts + cond later 1 0) ws k (λ e. rw (h e) (omega arith)) (omega arith)
 
 pub struck-tidy : (objects ws : ℕ) (k : Core) → Tidy objects k → Formed-core k → Tidy objects (struck ws k)
-unfolding struck
-struck-tidy objects ws k s f = go (k .active && meeting ws (dataSet k)) refl
-  where
-    go : (b : Bool) → (k .active && meeting ws (dataSet k)) ≡ b → Tidy objects (cond b (aborted k) k)
-    go true e = aborted-tidy objects k s f (both-left (k .active) (meeting ws (dataSet k)) e)
-    go false e = s
+struck-tidy objects ws k s f = struck-either (Tidy objects) ws k (λ e. aborted-tidy objects k s f (both-left (k .active) _ e)) s
 
 pub struck-formed : (ws : ℕ) (k : Core) → Formed-core k → Formed-core (struck ws k)
-unfolding struck
-struck-formed ws k f = go (k .active && meeting ws (dataSet k))
-  where
-    go : (b : Bool) → Formed-core (cond b (aborted k) k)
-    go true = record { jobs-long = f .jobs-long; reads-fit = omega arith; writes-fit = omega arith }
-    go false = f
+struck-formed ws k f =
+    struck-either Formed-core ws k (λ e. record { jobs-long = f .jobs-long; reads-fit = omega arith; writes-fit = omega arith }) f

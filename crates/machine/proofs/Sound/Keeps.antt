@@ -1,13 +1,11 @@
 -- Every call on a good world leaves a good world: a sound record of the right shape, and tables of the right lengths. The world
 -- of an accepted setup is good. Assumes nothing.
-use mathlib.Core.Path.{_≡_, refl, sym, ap, subst, _∙_}
-use mathlib.Core.Bool.{Bool, true, false, not, _&&_, true≢false}
-use mathlib.Core.List.{List, [], _∷_}
+use mathlib.Core.Path.{_≡_, refl, sym, subst, _∙_}
+use mathlib.Core.Bool.{true, false, true≢false}
+use mathlib.Core.List.{List}
 use Prim.Native.Nat.{ℕ, _*_, _-_, _≤_, _<_}
 use native.Mathlib.Omega.{arith}
-use lib.Dec.{leb, ltb}
 use lib.ListN.{getD, length, replicate, length-set, length-replicate, getD-replicate}
-use borrow.Author.Tests.{ltb-true, leb-true}
 use Rattle.objset.specs.Objset.{added}
 use Rattle.objset.proofs.Laws.{added-fits}
 use Rattle.machine.specs.declared.Machine.{Machine}
@@ -15,16 +13,15 @@ use Rattle.machine.specs.declared.Core.{Core}
 use Rattle.machine.specs.declared.Job.{Job}
 use Rattle.machine.specs.declared.Answer.{Answer}
 use Rattle.machine.specs.declared.Answer.the-variants.{Ready}
-use Rattle.machine.specs.Record.{noJob, noCore, coreAt, putCore, idle, blankCore, blank, machineOf, running}
-use Rattle.machine.specs.Sound.{sound}
-use Rattle.machine.specs.Answers.{kind}
-use Rattle.machine.specs.Rule.{World, slot, withJob, withSets, without, released, begun, told, valued, written, through, ended, finished, setup, Call, Result, first, unlessLent, misfit}
-use Rattle.machine.proofs.Case.{Case, is-refused, is-released, is-begun, is-told, is-valued, is-written, is-waiting, is-through, is-ended, is-finished}
+use Rattle.machine.specs.Record.{noJob, noCore, coreAt, putCore, idle, blankCore, machineOf, running}
+use Rattle.machine.specs.Rule.{World, slot, withJob, unmarked, withSets, without, released, begun, told, valued, written, through, ended, finished, setup, Call}
+use Rattle.machine.proofs.Case.{Case, is-refused, is-released, is-begun, is-told, is-valued, is-written, is-waiting, is-through, is-ended, is-finished, setup-case}
 use Rattle.machine.proofs.Tally.{tally-within}
-use Rattle.machine.specs.Inside.{Formed-core, Formed, Good}
+use Rattle.machine.specs.Inside.{Formed-core, Good}
+use Rattle.machine.proofs.Sound.Passed.{in-range}
 use Rattle.machine.proofs.Sound.Standing.{Tidy, standing, is-sound}
 use Rattle.machine.proofs.Sound.Jobs.{running-least, least-listed}
-use Rattle.machine.proofs.Sound.Cores.{unmarked, idle-list, idle-tidy, idle-formed, released-tidy, released-formed, told-tidy, told-formed, sets-tidy, sets-formed, finished-tidy, finished-formed, added-within}
+use Rattle.machine.proofs.Sound.Cores.{idle-list, idle-tidy, idle-formed, released-tidy, released-formed, told-tidy, told-formed, sets-tidy, sets-formed, finished-tidy, finished-formed, added-within}
 use Rattle.machine.proofs.Entries.{changed-long}
 use Rattle.machine.proofs.Sound.OneCore.{Whole, inside, put-whole, begun-whole, ended-whole}
 use Rattle.machine.proofs.Sound.Commit.{through-whole}
@@ -112,8 +109,7 @@ keeps-good {w} (is-waiting ok free rival) g = g
 keeps-good {w} (is-through {c} ok free clear) g =
     unfold through in
     good (through-whole (w .machine) c (ok .core-ok .is-core) (whole g) clear (ok .active) (w .committed) (w .pending))
-    (changed-long (coreAt (w .machine) c .writes) (λ d v. getD (w .pending) (slot (w .machine) c d) 0) 0 (w .committed)
-    ∙ g .committed-long) (g .pending-long)
+    (changed-long (coreAt (w .machine) c .writes) _ 0 (w .committed) ∙ g .committed-long) (g .pending-long)
 keeps-good {w} (is-ended {c} ok on) g =
     unfold ended in good (ended-whole (w .machine) c (ok .is-core) (whole g) on) (g .committed-long) (g .pending-long)
 keeps-good {w} (is-finished {c} ok some off) g =
@@ -160,40 +156,10 @@ module _ (cores objects : ℕ) where
         };
       }
 
--- what the tests of setup leave
-in-range : (a b c d : Bool) → not (a && b && c && d) ≡ false → (a ≡ true) × (b ≡ true) × (c ≡ true) × (d ≡ true)
-in-range true true true true e = (refl, refl, refl, refl)
-in-range true true true false e = absurd (true≢false e)
-in-range true true false d e = absurd (true≢false e)
-in-range true false c d e = absurd (true≢false e)
-in-range false b c d e = absurd (true≢false e)
-
 pub setup-good : (cores objects : ℕ) (committed pending : List ℕ) → setup cores objects committed pending .answer ≡ Ready
     → Good (setup cores objects committed pending .world)
-unfolding setup
-setup-good cores objects committed pending =
-    go (not (ltb 0 cores && leb cores 16 && ltb 0 objects && leb objects 64)) refl (misfit cores objects committed pending)
-  where
-    blanked : World
-    blanked = record { machine = blank; committed = committed; pending = pending }
-
-    ready : Result
-    ready =
-        record {
-          answer = Ready;
-          world = record { machine = machineOf cores objects; committed = replicate objects 0; pending = replicate (cores * objects) 0 };
-        }
-
-    go : (a : Bool) → not (ltb 0 cores && leb cores 16 && ltb 0 objects && leb objects 64) ≡ a → (b : Bool)
-        → unlessLent (first ((a, 1) ∷ (b, 3) ∷ [])) blanked ready .answer ≡ Ready
-        → Good (unlessLent (first ((a, 1) ∷ (b, 3) ∷ [])) blanked ready .world)
-    go true e b = unfold first unlessLent kind in λ p. absurd (omega (arith, ap kind p))
-    go false e true = unfold first unlessLent kind in λ p. absurd (omega (arith, ap kind p))
-    go false e false =
-        let r = in-range (ltb 0 cores) (leb cores 16) (ltb 0 objects) (leb objects 64) e in
-        unfold first unlessLent in
-        λ p.
-        good
-        (new-whole cores objects (ltb-true 0 cores (r .0)) (leb-true cores 16 (r .1)) (ltb-true 0 objects (r .2))
-        (leb-true objects 64 (r .3)))
-        (length-replicate {A = ℕ} objects 0) (length-replicate {A = ℕ} (cores * objects) 0)
+setup-good cores objects committed pending ready =
+    let new = setup-case cores objects committed pending ready in
+    let r = in-range cores objects (new .0) in
+    subst Good (sym (new .1))
+    (good (new-whole cores objects (r .0) (r .1) (r .2) (r .3)) (length-replicate {A = ℕ} objects 0) (length-replicate {A = ℕ} (cores * objects) 0))

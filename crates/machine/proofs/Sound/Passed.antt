@@ -1,8 +1,12 @@
 -- Soundness is fifteen tests, and all of them pass. Assumes nothing.
 use mathlib.Core.Path.{_≡_, refl, sym}
 use mathlib.Core.Bool.{Bool, true, false, _&&_, true≢false}
+use Prim.Native.Nat.{ℕ, _≤_, _<_}
+use lib.Dec.{ltb, leb}
+use borrow.Author.Tests.{ltb-true, leb-true}
 use Rattle.objset.proofs.Laws.{both-left, both-right}
 use Rattle.machine.specs.declared.Machine.{Machine}
+use Rattle.machine.specs.Record.{sizesInRange}
 use Rattle.machine.specs.Sound.{_⇒_, inRange, setsWithin, ownerListed, idleClear, zombieEmpty, atMostEight, unusedJobs, lackedCores, lackedObjects, ownerFirst, ticketsDiffer, ticketsGiven, ticketsCounted, versionsBounded, abortsBounded, sound}
 
 pub if-true : (a b : Bool) → (a ⇒ b) ≡ true → a ≡ true → b ≡ true
@@ -15,6 +19,14 @@ true-if false b h = refl
 
 pub both : (a b : Bool) → (a && b) ≡ true → (a ≡ true) × (b ≡ true)
 both a b e = (both-left a b e, both-right a b e)
+
+-- cores and cards that are in range
+pub in-range : (cores objects : ℕ) → sizesInRange cores objects ≡ true → (0 < cores) × (cores ≤ 16) × (0 < objects) × (objects ≤ 64)
+in-range cores objects e =
+    let three = both (ltb 0 cores && leb cores 16 && ltb 0 objects) (leb objects 64) e in
+    let two = both (ltb 0 cores && leb cores 16) (ltb 0 objects) (three .0) in
+    let one = both (ltb 0 cores) (leb cores 16) (two .0) in
+    (ltb-true 0 cores (one .0), leb-true cores 16 (one .1), ltb-true 0 objects (two .1), leb-true objects 64 (three .1))
 
 pub record Passed (m : Machine) : Type 0 where
   pub passed-in-range : inRange m ≡ true

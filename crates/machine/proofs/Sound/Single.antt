@@ -102,22 +102,10 @@ stays-fitting step g = good-fits (keeps-good step g)
 -- ---- which calls change a table
 
 abbrev pub isWrite : Call → Bool
-isWrite (Release c number deadline) = false
-isWrite (Begin c) = false
-isWrite (Read c d) = false
-isWrite (Write c d v) = true
-isWrite (Commit c) = false
-isWrite (GiveUp c) = false
-isWrite (Finish c) = false
+isWrite call = at call false false false true false false false
 
 abbrev pub isCommit : Call → Bool
-isCommit (Release c number deadline) = false
-isCommit (Begin c) = false
-isCommit (Read c d) = false
-isCommit (Write c d v) = false
-isCommit (Commit c) = true
-isCommit (GiveUp c) = false
-isCommit (Finish c) = false
+isCommit call = at call false false false false true false false
 
 -- a table that an accepted call keeps is kept by the call
 module _ (table : World → List ℕ) (w : World) where

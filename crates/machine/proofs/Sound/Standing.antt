@@ -2,10 +2,10 @@
 -- `Formed m` is what the types of the record's fields give besides. Assumes nothing.
 use mathlib.Core.Path.{_≡_, refl, sym, ap, ap₂}
 use mathlib.Core.Bool.{Bool, true, false, not, _&&_}
-use Prim.Native.Nat.{ℕ, _+_, _^_, _≤_, _<_}
+use Prim.Native.Nat.{ℕ, _+_, _≤_, _<_}
 use native.Mathlib.Omega.{arith}
 use lib.Dec.{eqb, leb, ltb}
-use lib.ListN.{getD, length}
+use lib.ListN.{getD}
 use borrow.Author.Tests.{ltb-true, ltb-false, leb-true, eqb-true, eqb-false, lt-ltb, le-leb, eq-eqb, ne-eqb, not-true}
 use Rattle.objset.specs.Objset.{has, below}
 use Rattle.objset.proofs.Laws.{each-one, one-each}
@@ -15,7 +15,7 @@ use Rattle.machine.specs.declared.Job.{Job}
 use Rattle.machine.specs.Record.{noJob, coreAt, jobAt}
 use Rattle.machine.specs.Sound.{_⇒_, inRange, setsWithin, ownerListed, emptySets, idleClear, zombieEmpty, atMostEight, zeroJob, unusedJobs, lackedCores, lackedObjects, ownerFirst, ticketsDiffer, ticketsGiven, ticketsCounted, versionsBounded, ahead, abortsBounded, sound}
 use Rattle.machine.proofs.Sound.Turns.{Turns}
-use Rattle.machine.proofs.Sound.Passed.{if-true, true-if, both, Passed, passed, passed-all}
+use Rattle.machine.proofs.Sound.Passed.{if-true, true-if, both, in-range, Passed, passed, passed-all}
 
 -- empty sets, no mark, and owner's place, ticket and setbacks 0
 pub record Clear (k : Core) : Type 0 where
@@ -168,10 +168,10 @@ pub standing : {m : Machine} → sound m ≡ true → Standing m
 unfolding inRange lackedObjects versionsBounded
 standing {m} sound-m =
     record {
-      some-cores = ltb-true 0 (m .cores) (cores .0);
-      few-cores = leb-true (m .cores) 16 (cores .1);
-      some-objects = ltb-true 0 (m .objects) (some .1);
-      few-objects = leb-true (m .objects) 64 (range .1);
+      some-cores = range .0;
+      few-cores = range .1;
+      some-objects = range .2;
+      few-objects = range .3;
       tidy = standing-core m s;
       lacked-jobs = λ c l h. eqb-true (coreAt m c .count) 0 (lacked-core m s c l h .0);
       lacked-objects = λ d l h.
@@ -184,14 +184,8 @@ standing {m} sound-m =
     s : Passed m
     s = passed m sound-m
 
-    range : ((ltb 0 (m .cores) && leb (m .cores) 16 && ltb 0 (m .objects)) ≡ true) × (leb (m .objects) 64 ≡ true)
-    range = both _ (leb (m .objects) 64) (s .passed-in-range)
-
-    some : ((ltb 0 (m .cores) && leb (m .cores) 16) ≡ true) × (ltb 0 (m .objects) ≡ true)
-    some = both _ (ltb 0 (m .objects)) (range .0)
-
-    cores : (ltb 0 (m .cores) ≡ true) × (leb (m .cores) 16 ≡ true)
-    cores = both (ltb 0 (m .cores)) (leb (m .cores) 16) (some .0)
+    range : (0 < m .cores) × (m .cores ≤ 16) × (0 < m .objects) × (m .objects ≤ 64)
+    range = in-range (m .cores) (m .objects) (s .passed-in-range)
 
 -- ---- the rules together give soundness
 

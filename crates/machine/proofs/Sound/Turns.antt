@@ -1,12 +1,12 @@
 -- The standing rules that tie the transactions in progress to one another, over plain functions of the core's number: which
 -- cores have a transaction in progress (a), its ticket (t) and its setbacks (b). They outlast a change elsewhere, a begin and
 -- an end. Assumes nothing.
-use mathlib.Core.Path.{_≡_, refl, sym, ap, ap₂, subst, _∙_}
+use mathlib.Core.Path.{_≡_, refl, sym, ap, ap₂, _∙_}
 use mathlib.Core.Bool.{Bool, true, false, cond, _&&_, true≢false}
 use Prim.Native.Nat.{ℕ, _+_, _≤_, _<_}
 use native.Mathlib.Omega.{arith}
-use lib.Dec.{eqb, ltb}
-use borrow.Author.Tests.{ltb-true, le-ltb, eqb-true, eqb-false}
+use lib.Dec.{ltb}
+use borrow.Author.Tests.{ltb-true, le-ltb}
 use Rattle.objset.proofs.Laws.{both-left, both-right}
 use Rattle.machine.specs.Record.{tally}
 use Rattle.machine.proofs.Entries.{here-or-else}

@@ -1,9 +1,5 @@
 -- `machine::refused_setup` meets its contract. Assumes nothing.
-use mathlib.Core.Path.{ap}
 use borrow.Author.Needs.{needs}
-use Rattle.machine.specs.declared.Machine.{Machine}
-use Rattle.machine.specs.declared.Outcome.{Outcome}
-use Rattle.machine.specs.declared.Answer.the-variants.{Refused}
 use Rattle.machine.proofs.refused_setup.Statement.{statement}
 use Rattle.machine.proofs.refused_setup.Tie as tie
 

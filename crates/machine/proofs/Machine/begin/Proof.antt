@@ -1,8 +1,11 @@
 -- `machine::Machine::begin` meets its contract: an unsound record is refused, any other goes to the inside function. Assumes nothing.
-use mathlib.Core.Path.{sym, _∙_}
+use mathlib.Core.Path.{sym, ap, _∙_}
+use mathlib.Core.List.{[]}
 use borrow.Author.Needs.{needs}
-use Rattle.machine.proofs.DoorLaws.{begin-unsound}
-use Rattle.machine.proofs.Told.{begin-told}
+use Rattle.machine.specs.Rule.{lent, rule, Begin}
+use Rattle.machine.proofs.Refusals.{smallest-given}
+use Rattle.machine.proofs.DoorLaws.{unsound-refused}
+use Rattle.machine.proofs.Told.{told, handed}
 use Rattle.machine.proofs.Machine.begin.Statement.{statement}
 use Rattle.machine.proofs.Machine.begin.Tie as tie
 
@@ -13,10 +16,14 @@ begin-requires : tie.Need-begin-requires
 begin-requires c κs = sym (c .before .is-sound .ensures) ∙ c .if1 .taken
 
 returns : tie.Need-returns
-returns c = begin-told _ _ _ (c .begin .ensures)
+unfolding rule
+returns c = told (smallest-given 0 (lent _ [] []) (Begin _)) (c .begin .ensures)
 
 returns-2 : tie.Need-returns-2
-returns-2 c = begin-told _ _ _ (begin-unsound _ _ (sym (c .before .is-sound .ensures) ∙ c .if1 .left))
+unfolding rule
+returns-2 c =
+    told (smallest-given 0 (lent _ [] []) (Begin _))
+    (ap handed (unsound-refused 0 (lent _ [] []) (Begin _) (sym (c .before .is-sound .ensures) ∙ c .if1 .left)))
 
 pub begin-spec : {M : Type 1} → statement M
 begin-spec = tie.close (tie.spec is-sound-requires begin-requires returns returns-2)

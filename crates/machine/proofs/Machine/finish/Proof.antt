@@ -1,8 +1,11 @@
 -- `machine::Machine::finish` meets its contract: an unsound record is refused, any other goes to the inside function. Assumes nothing.
-use mathlib.Core.Path.{sym, _∙_}
+use mathlib.Core.Path.{sym, ap, _∙_}
+use mathlib.Core.List.{[]}
 use borrow.Author.Needs.{needs}
-use Rattle.machine.proofs.DoorLaws.{finish-unsound}
-use Rattle.machine.proofs.Told.{finish-told}
+use Rattle.machine.specs.Rule.{lent, rule, Finish}
+use Rattle.machine.proofs.Refusals.{smallest-given}
+use Rattle.machine.proofs.DoorLaws.{unsound-refused}
+use Rattle.machine.proofs.Told.{told, handed}
 use Rattle.machine.proofs.Machine.finish.Statement.{statement}
 use Rattle.machine.proofs.Machine.finish.Tie as tie
 
@@ -13,10 +16,14 @@ finish-requires : tie.Need-finish-requires
 finish-requires c κs = sym (c .before .is-sound .ensures) ∙ c .if1 .taken
 
 returns : tie.Need-returns
-returns c = finish-told _ _ _ (c .finish .ensures)
+unfolding rule
+returns c = told (smallest-given 0 (lent _ [] []) (Finish _)) (c .finish .ensures)
 
 returns-2 : tie.Need-returns-2
-returns-2 c = finish-told _ _ _ (finish-unsound _ _ (sym (c .before .is-sound .ensures) ∙ c .if1 .left))
+unfolding rule
+returns-2 c =
+    told (smallest-given 0 (lent _ [] []) (Finish _))
+    (ap handed (unsound-refused 0 (lent _ [] []) (Finish _) (sym (c .before .is-sound .ensures) ∙ c .if1 .left)))
 
 pub finish-spec : {M : Type 1} → statement M
 finish-spec = tie.close (tie.spec is-sound-requires finish-requires returns returns-2)

@@ -1,8 +1,11 @@
 -- `machine::Machine::give_up` meets its contract: an unsound record is refused, any other goes to the inside function. Assumes nothing.
-use mathlib.Core.Path.{sym, _∙_}
+use mathlib.Core.Path.{sym, ap, _∙_}
+use mathlib.Core.List.{[]}
 use borrow.Author.Needs.{needs}
-use Rattle.machine.proofs.DoorLaws.{give-up-unsound}
-use Rattle.machine.proofs.Told.{give-up-told}
+use Rattle.machine.specs.Rule.{lent, rule, GiveUp}
+use Rattle.machine.proofs.Refusals.{smallest-given}
+use Rattle.machine.proofs.DoorLaws.{unsound-refused}
+use Rattle.machine.proofs.Told.{told, handed}
 use Rattle.machine.proofs.Machine.give_up.Statement.{statement}
 use Rattle.machine.proofs.Machine.give_up.Tie as tie
 
@@ -13,10 +16,14 @@ give-up-requires : tie.Need-give-up-requires
 give-up-requires c κs = sym (c .before .is-sound .ensures) ∙ c .if1 .taken
 
 returns : tie.Need-returns
-returns c = give-up-told _ _ _ (c .give-up .ensures)
+unfolding rule
+returns c = told (smallest-given 0 (lent _ [] []) (GiveUp _)) (c .give-up .ensures)
 
 returns-2 : tie.Need-returns-2
-returns-2 c = give-up-told _ _ _ (give-up-unsound _ _ (sym (c .before .is-sound .ensures) ∙ c .if1 .left))
+unfolding rule
+returns-2 c =
+    told (smallest-given 0 (lent _ [] []) (GiveUp _))
+    (ap handed (unsound-refused 0 (lent _ [] []) (GiveUp _) (sym (c .before .is-sound .ensures) ∙ c .if1 .left)))
 
 pub give-up-spec : {M : Type 1} → statement M
 give-up-spec = tie.close (tie.spec is-sound-requires give-up-requires returns returns-2)

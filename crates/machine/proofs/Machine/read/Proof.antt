@@ -1,8 +1,10 @@
 -- `machine::Machine::read` meets its contract: an unsound record and a table of another length are refused, the rest goes to the inside function. Assumes nothing.
-use mathlib.Core.Path.{sym, _∙_}
+use mathlib.Core.Path.{refl, sym, _∙_}
 use borrow.Author.Needs.{needs}
-use Rattle.machine.proofs.DoorLaws.{read-unsound, read-misfit, fine-of}
-use Rattle.machine.proofs.Told.{read-told}
+use Rattle.machine.specs.Rule.{rule, Read}
+use Rattle.machine.proofs.Refusals.{smallest-given}
+use Rattle.machine.proofs.DoorLaws.{unsound-refused, misfit-refused, fine-of}
+use Rattle.machine.proofs.Told.{lent-told}
 use Rattle.machine.proofs.Machine.read.Statement.{statement}
 use Rattle.machine.proofs.Machine.read.Tie as tie
 
@@ -26,16 +28,22 @@ same-length-2 : tie.Need-same-length-2
 same-length-2 c = search needs
 
 returns : tie.Need-returns
-returns c = read-told _ _ _ _ (c .read .ensures)
+unfolding rule
+returns c = lent-told (smallest-given 0 _ (Read _ _)) (c .read .ensures)
 
 returns-2 : tie.Need-returns-2
+unfolding rule
 returns-2 c =
     let fit = c .before in
     let then1 = fit .before in
-    read-told _ _ _ _ (read-misfit _ _ (sym (then1 .before .is-sound .ensures) ∙ then1 .if1 .taken) (sym (fit .tables-fit .ensures) ∙ c .if2 .left) _)
+    lent-told (smallest-given 0 _ (Read _ _))
+    (misfit-refused 0 _ (Read _ _) refl (sym (then1 .before .is-sound .ensures) ∙ then1 .if1 .taken) (sym (fit .tables-fit .ensures) ∙ c .if2 .left))
 
 returns-3 : tie.Need-returns-3
-returns-3 c = read-told _ _ _ _ (read-unsound _ _ (sym (c .before .is-sound .ensures) ∙ c .if1 .left) _)
+unfolding rule
+returns-3 c =
+    lent-told (smallest-given 0 _ (Read _ _))
+    (unsound-refused 0 _ (Read _ _) (sym (c .before .is-sound .ensures) ∙ c .if1 .left))
 
 pub read-spec : {M : Type 1} → statement M
 read-spec =

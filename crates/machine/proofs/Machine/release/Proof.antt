@@ -1,8 +1,11 @@
 -- `machine::Machine::release` meets its contract: an unsound record is refused, any other goes to the inside function. Assumes nothing.
-use mathlib.Core.Path.{sym, _∙_}
+use mathlib.Core.Path.{sym, ap, _∙_}
+use mathlib.Core.List.{[]}
 use borrow.Author.Needs.{needs}
-use Rattle.machine.proofs.DoorLaws.{release-unsound}
-use Rattle.machine.proofs.Told.{release-told}
+use Rattle.machine.specs.Rule.{lent, rule, Release}
+use Rattle.machine.proofs.Refusals.{smallest-given}
+use Rattle.machine.proofs.DoorLaws.{unsound-refused}
+use Rattle.machine.proofs.Told.{told, handed}
 use Rattle.machine.proofs.Machine.release.Statement.{statement}
 use Rattle.machine.proofs.Machine.release.Tie as tie
 
@@ -13,10 +16,14 @@ release-requires : tie.Need-release-requires
 release-requires c κs = sym (c .before .is-sound .ensures) ∙ c .if1 .taken
 
 returns : tie.Need-returns
-returns c = release-told _ _ _ _ _ (c .release .ensures)
+unfolding rule
+returns c = told (smallest-given 0 (lent _ [] []) (Release _ _ _)) (c .release .ensures)
 
 returns-2 : tie.Need-returns-2
-returns-2 c = release-told _ _ _ _ _ (release-unsound _ _ (sym (c .before .is-sound .ensures) ∙ c .if1 .left) _ _)
+unfolding rule
+returns-2 c =
+    told (smallest-given 0 (lent _ [] []) (Release _ _ _))
+    (ap handed (unsound-refused 0 (lent _ [] []) (Release _ _ _) (sym (c .before .is-sound .ensures) ∙ c .if1 .left)))
 
 pub release-spec : {M : Type 1} → statement M
 release-spec = tie.close (tie.spec is-sound-requires release-requires returns returns-2)

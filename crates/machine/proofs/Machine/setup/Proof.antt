@@ -1,5 +1,5 @@
 -- `machine::Machine::setup` meets its contract. Assumes nothing.
-use mathlib.Core.Path.{_≡_, sym, ap, _∙_}
+use mathlib.Core.Path.{_≡_, sym, _∙_}
 use mathlib.Core.List.{List}
 use Prim.Native.Nat.{ℕ}
 use native.Mathlib.Omega.{arith}
@@ -7,11 +7,13 @@ use borrow.Author.Needs.{needs}
 use Rattle.machine.specs.declared.Outcome.{Outcome}
 use Rattle.machine.specs.declared.Answer.the-variants.{Ready}
 use Rattle.machine.specs.Refusals.{setupRefusals}
-use Rattle.machine.specs.Rule.{Result, lent, left, setup}
+use Rattle.machine.specs.Rule.{lent, left, setup}
 use Rattle.machine.specs.Claims.{EveryRun}
 use Rattle.machine.proofs.Run.WholeRun.{every-run}
-use Rattle.machine.proofs.DoorLaws.{few-of, setup-range, setup-misfit, setup-made}
-use Rattle.machine.proofs.Told.{Paper, setup-told}
+use Rattle.machine.proofs.Refusals.{setup-smallest-given}
+use Rattle.machine.proofs.Sound.Passed.{in-range}
+use Rattle.machine.proofs.DoorLaws.{setup-range, setup-misfit, setup-made}
+use Rattle.machine.proofs.Told.{Paper, lent-told}
 use Rattle.machine.proofs.Machine.setup.Statement.{statement}
 use Rattle.machine.proofs.Machine.setup.Tie as tie
 
@@ -20,7 +22,7 @@ kept : (cores objects : ℕ) (committed pending : List ℕ) (r : Outcome) (cs ps
     → (left r cs ps ≡ setup cores objects committed pending)
     × ((r .answer ≡ Ready → EveryRun (lent (r .machine) cs ps)) × Paper (r .answer) (setupRefusals cores objects committed pending) (setup cores objects committed pending .answer))
 kept cores objects committed pending r cs ps e =
-    (e, (every-run cores objects committed pending r cs ps e, setup-told cores objects committed pending (r .answer) (ap (λ (x : Result). x .answer) e)))
+    (e, (every-run cores objects committed pending r cs ps e, lent-told (setup-smallest-given cores objects committed pending) e .1))
 
 in-range-requires : tie.Need-in-range-requires
 in-range-requires c κs = search needs
@@ -28,12 +30,12 @@ in-range-requires c κs = search needs
 cast-n : tie.Need-cast-n
 cast-n c =
     let args = c .before .before .before .before .args in
-    omega (arith, few-of (args .cores) (args .objects) (sym (c .before .in-range .ensures) ∙ c .if1 .taken) .0)
+    omega (arith, in-range (args .cores) (args .objects) (sym (c .before .in-range .ensures) ∙ c .if1 .taken) .1)
 
 cast-d : tie.Need-cast-d
 cast-d c =
     let args = c .before .before .before .before .args in
-    omega (arith, few-of (args .cores) (args .objects) (sym (c .before .in-range .ensures) ∙ c .if1 .taken) .1)
+    omega (arith, in-range (args .cores) (args .objects) (sym (c .before .in-range .ensures) ∙ c .if1 .taken) .3)
 
 tables-fit-requires : tie.Need-tables-fit-requires
 tables-fit-requires c κs = search needs

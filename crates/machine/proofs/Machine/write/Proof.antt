@@ -1,8 +1,10 @@
 -- `machine::Machine::write` meets its contract: an unsound record and a table of another length are refused, the rest goes to the inside function. Assumes nothing.
-use mathlib.Core.Path.{sym, _∙_}
+use mathlib.Core.Path.{refl, sym, _∙_}
 use borrow.Author.Needs.{needs}
-use Rattle.machine.proofs.DoorLaws.{write-unsound, write-misfit, fine-of}
-use Rattle.machine.proofs.Told.{write-told}
+use Rattle.machine.specs.Rule.{rule, Write}
+use Rattle.machine.proofs.Refusals.{smallest-given}
+use Rattle.machine.proofs.DoorLaws.{unsound-refused, misfit-refused, fine-of}
+use Rattle.machine.proofs.Told.{lent-told}
 use Rattle.machine.proofs.Machine.write.Statement.{statement}
 use Rattle.machine.proofs.Machine.write.Tie as tie
 
@@ -26,16 +28,22 @@ same-length-2 : tie.Need-same-length-2
 same-length-2 c = search needs
 
 returns : tie.Need-returns
-returns c = write-told _ _ _ _ _ (c .before .before .write .ensures)
+unfolding rule
+returns c = lent-told (smallest-given 0 _ (Write _ _ _)) (c .before .before .write .ensures)
 
 returns-2 : tie.Need-returns-2
+unfolding rule
 returns-2 c =
     let fit = c .before in
     let then1 = fit .before in
-    write-told _ _ _ _ _ (write-misfit _ _ (sym (then1 .before .is-sound .ensures) ∙ then1 .if1 .taken) (sym (fit .tables-fit .ensures) ∙ c .if2 .left) _ _)
+    lent-told (smallest-given 0 _ (Write _ _ _))
+    (misfit-refused 0 _ (Write _ _ _) refl (sym (then1 .before .is-sound .ensures) ∙ then1 .if1 .taken) (sym (fit .tables-fit .ensures) ∙ c .if2 .left))
 
 returns-3 : tie.Need-returns-3
-returns-3 c = write-told _ _ _ _ _ (write-unsound _ _ (sym (c .before .is-sound .ensures) ∙ c .if1 .left) _ _)
+unfolding rule
+returns-3 c =
+    lent-told (smallest-given 0 _ (Write _ _ _))
+    (unsound-refused 0 _ (Write _ _ _) (sym (c .before .is-sound .ensures) ∙ c .if1 .left))
 
 pub write-spec : {M : Type 1} → statement M
 write-spec =

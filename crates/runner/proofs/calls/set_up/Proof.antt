@@ -7,7 +7,6 @@ use native.Mathlib.Omega.{arith}
 use lib.Seq.{length-take-le}
 use denote.Ref.{now}
 use borrow.Author.Needs.{needs}
-use Rattle.runner.specs.Listing.{inRange}
 use Rattle.runner.proofs.Setups.{few-cards, few-words, set-up-accepts, set-up-refuses}
 use Rattle.runner.proofs.calls.set_up.Statement.{statement}
 use Rattle.runner.proofs.calls.set_up.Tie as tie
