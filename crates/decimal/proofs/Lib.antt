@@ -3,3 +3,5 @@ mod Reading
 mod Spelling
 pub mod Laws
 mod Examples
+mod Again
+pub mod Part

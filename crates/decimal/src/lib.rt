@@ -9,6 +9,7 @@ ghost use lib.ListN.{length, drop};
 ghost use denote.Ref.{ptr};
 ghost use Rattle.decimal.specs.Spelling.{spelling, shown, printed};
 ghost use Rattle.decimal.specs.Reading.{noLeadingZero, reads};
+ghost use Rattle.decimal.specs.Scratch.{keepsFrom};
 
 // What a field reads as.
 pub enum Number {
@@ -64,6 +65,7 @@ fn no_leading_zero(field: &[u8]) -> bool
 pub fn print(n: u32, scratch: &mut [u8]) -> &mut [u8]
     ensures digits { λ r. ⌜ now r ≡ shown n (now (scratch .entry)) ⌝ }
     ensures first { λ r. ⌜ ptr r ≡ ptr (scratch .entry) ⌝ }
+    ensures rest { λ r. keepsFrom 𝓤 H A (length (now r)) (scratch .entry) ∗ ⊤ₛ }
 {
     let k = put(n, scratch);
     &mut scratch[..k]
