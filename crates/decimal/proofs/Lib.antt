@@ -4,4 +4,5 @@ mod Spelling
 pub mod Laws
 mod Examples
 mod Again
-pub mod Part
+mod Part
+pub mod Lender
