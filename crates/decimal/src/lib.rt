@@ -61,9 +61,9 @@ fn no_leading_zero(field: &[u8]) -> bool
 // its bytes, and the part is empty.
 //
 // The scratch is lent for as long as the part is in use. So `rest` speaks of the scratch's last value:
-// whoever lent it finds, from the part's end on, the bytes that it lent (`proofs/Lender.antt`). It is
-// no plain fact but something that the caller's proof has; a proof that the borrow checker makes passes
-// over it, by `∗ ⊤ₛ`. Where such a caller reads its scratch afterwards, it calls `put`.
+// whoever lent it finds, from the part's end on, the bytes that it lent (`proofs/Lender.antt`). That is
+// a resource of the caller's proof and no plain fact: the borrow checker passes over it (`∗ ⊤ₛ`), and a
+// caller that it covers, and that reads its scratch afterwards, calls `put`.
 pub fn print(n: u32, scratch: &mut [u8]) -> &mut [u8]
     ensures digits { λ r. ⌜ now r ≡ shown n (now (scratch .entry)) ⌝ }
     ensures first { λ r. ⌜ ptr r ≡ ptr (scratch .entry) ⌝ }
