@@ -3,3 +3,6 @@ mod Reading
 mod Spelling
 pub mod Laws
 mod Examples
+mod Again
+mod Part
+pub mod Lender

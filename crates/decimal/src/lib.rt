@@ -9,6 +9,7 @@ ghost use lib.ListN.{length, drop};
 ghost use denote.Ref.{ptr};
 ghost use Rattle.decimal.specs.Spelling.{spelling, shown, printed};
 ghost use Rattle.decimal.specs.Reading.{noLeadingZero, reads};
+ghost use Rattle.decimal.specs.Scratch.{keepsFrom};
 
 // What a field reads as.
 pub enum Number {
@@ -56,14 +57,17 @@ fn no_leading_zero(field: &[u8]) -> bool
 }
 
 // Prints n into the scratch, and answers with its digits, the first part of the scratch: they begin
-// where the scratch does. A scratch under 10 bytes keeps its bytes, and the part is empty.
+// where the scratch does. The bytes after the part keep what they held. A scratch under 10 bytes keeps
+// its bytes, and the part is empty.
 //
-// The scratch is lent for as long as the part is in use, and no clause here can speak of it. That the
-// bytes after the part keep what they held is in the contract of `put`, which does all the writing. A
-// caller that reads its scratch afterwards calls `put`.
+// The scratch is lent for as long as the part is in use. So `rest` speaks of the scratch's last value:
+// whoever lent it finds, from the part's end on, the bytes that it lent (`proofs/Lender.antt`). That is
+// a resource of the caller's proof and no plain fact: the borrow checker passes over it (`∗ ⊤ₛ`), and a
+// caller that it covers, and that reads its scratch afterwards, calls `put`.
 pub fn print(n: u32, scratch: &mut [u8]) -> &mut [u8]
     ensures digits { λ r. ⌜ now r ≡ shown n (now (scratch .entry)) ⌝ }
     ensures first { λ r. ⌜ ptr r ≡ ptr (scratch .entry) ⌝ }
+    ensures rest { λ r. keepsFrom 𝓤 H A (length (now r)) (scratch .entry) ∗ ⊤ₛ }
 {
     let k = put(n, scratch);
     &mut scratch[..k]
