@@ -7,40 +7,40 @@ use native.Mathlib.Omega.{arith}
 use lib.Dec.{leb}
 use lib.ListN.{length, drop}
 use borrow.Author.Tests.{le-leb, lt-leb}
-use Rattle.entry.specs.Fitting.{fitting, given}
+use Rattle.entry.specs.Fitting.{wholeOrNone, outputAfter}
 
 none : (xs : List ℕ) → length xs ≡ 0 → xs ≡ []
 none [] e = refl
 none (x ∷ xs) e = absurd (omega (arith, e))
 
-refused : (text out : List ℕ) → length out < length text → fitting text out ≡ []
-unfolding fitting
+refused : (text out : List ℕ) → length out < length text → wholeOrNone text out ≡ []
+unfolding wholeOrNone
 refused text out h = rw (lt-leb (length text) (length out) h) refl
 
-whole : (text out : List ℕ) → length text ≤ length out → fitting text out ≡ text
-unfolding fitting
+whole : (text out : List ℕ) → length text ≤ length out → wholeOrNone text out ≡ text
+unfolding wholeOrNone
 whole text out h = rw (le-leb (length text) (length out) h) refl
 
-given-is : (text out text′ : List ℕ) → fitting text out ≡ text′ → given text out ≡ text′ ++ drop (length text′) out
-unfolding given
-given-is text out text′ e = rw e refl
+output-after : (text out text′ : List ℕ) → wholeOrNone text out ≡ text′ → outputAfter text out ≡ text′ ++ drop (length text′) out
+unfolding outputAfter
+output-after text out text′ e = rw e refl
 
 module _ (text out part : List ℕ) (no-byte : length part ≡ 0) (n : ℕ) (count : n ≡ length text) where
   same : part ++ out ≡ out
   same = ap (λ (x : List ℕ). x ++ out) (none part no-byte)
 
-  pub too-long : length (part ++ out) < n → (0 ≡ length (fitting text out)) × (part ++ out ≡ given text out)
+  pub too-long : length (part ++ out) < n → (0 ≡ length (wholeOrNone text out)) × (part ++ out ≡ outputAfter text out)
   too-long h =
       let short : length out < length text = omega (arith, h, ap length same, count) in
       let nothing = refused text out short in
-      (sym (ap length nothing), same ∙ sym (given-is text out [] nothing))
+      (sym (ap length nothing), same ∙ sym (output-after text out [] nothing))
 
   pub fits : n ≤ length (part ++ out) → (m : ℕ) (out′ : List ℕ) → m ≡ length text → (m ≤ length (part ++ out) → out′ ≡ text ++ drop m (part ++ out))
-      → (m ≡ length (fitting text out)) × (out′ ≡ given text out)
+      → (m ≡ length (wholeOrNone text out)) × (out′ ≡ outputAfter text out)
   fits h m out′ count′ put =
       let room : length text ≤ length out = omega (arith, h, ap length same, count) in
       let all = whole text out room in (
         count′ ∙ sym (ap length all),
         put (omega (arith, h, count, count′)) ∙ ap (λ (x : List ℕ). text ++ drop m x) same
-            ∙ ap (λ (k : ℕ). text ++ drop k out) count′ ∙ sym (given-is text out text all),
+            ∙ ap (λ (k : ℕ). text ++ drop k out) count′ ∙ sym (output-after text out text all),
       )

@@ -6,9 +6,9 @@ use lib.Dec.{leb}
 use lib.ListN.{length, drop}
 
 -- the bytes that are written: the whole text, and none where it is longer than the output (refusal 12)
-unfoldable pub fitting : List ℕ → List ℕ → List ℕ
-fitting text output = cond (leb (length text) (length output)) text []
+unfoldable pub wholeOrNone : List ℕ → List ℕ → List ℕ
+wholeOrNone text output = cond (leb (length text) (length output)) text []
 
 -- output past the length written keeps its bytes; with length 0 it is untouched
-unfoldable pub given : List ℕ → List ℕ → List ℕ
-given text output = fitting text output ++ drop (length (fitting text output)) output
+unfoldable pub outputAfter : List ℕ → List ℕ → List ℕ
+outputAfter text output = wholeOrNone text output ++ drop (length (wholeOrNone text output)) output

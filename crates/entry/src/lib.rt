@@ -5,7 +5,7 @@ ghost use Prim.Native.Nat.{ℕ, _+_, _≤_, _<_};
 ghost use lib.ListN.{length, drop};
 ghost use Rattle.runner.specs.Listing.{listing};
 ghost use Rattle.runner.specs.Runs.{EveryScript};
-ghost use Rattle.entry.specs.Fitting.{fitting, given};
+ghost use Rattle.entry.specs.Fitting.{wholeOrNone, outputAfter};
 
 // How many bytes of the script are run at a time. Each may end a line, which takes up to 32 bytes of text.
 const CHUNK: usize = 128;
@@ -15,8 +15,8 @@ const CHUNK: usize = 128;
 // accepted setup, with the answers that are listed (runner's specs/Runs.antt).
 #[no_mangle]
 pub extern "C" fn cards_run(script: &[u8], output: &mut [u8]) -> usize
-    ensures count { λ r. ⌜ r ≡ length (fitting (listing (now (script .entry))) (now (output .entry))) ⌝ }
-    ensures bytes { λ _. ⌜ now (output .exit) ≡ given (listing (now (script .entry))) (now (output .entry)) ⌝ }
+    ensures count { λ r. ⌜ r ≡ length (wholeOrNone (listing (now (script .entry))) (now (output .entry))) ⌝ }
+    ensures bytes { λ _. ⌜ now (output .exit) ≡ outputAfter (listing (now (script .entry))) (now (output .entry)) ⌝ }
     ensures runs { λ _. ⌜ EveryScript ⌝ }
 {
     let n = list_into(script, &mut output[..0]);

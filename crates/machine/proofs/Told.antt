@@ -14,14 +14,11 @@ use Rattle.machine.specs.Rule.{Result}
 abbrev pub Paper : Answer → List (Bool × ℕ) → Answer → Type 0
 Paper a conditions expected = Smallest (number a) conditions × (values a ≡ values expected)
 
--- what was given is what was expected, whose number is the smallest that applies
-told-by : {A : Type 0} (answerOf : A → Answer) (given expected : A) {conditions : List (Bool × ℕ)}
-    → Smallest (number (answerOf expected)) conditions → given ≡ expected
-    → (given ≡ expected) × Paper (answerOf given) conditions (answerOf expected)
-told-by answerOf given expected {conditions} smallest e = (
-  e,
-  (subst (λ x. Smallest (number (answerOf x)) conditions) (sym e) smallest, ap (λ x. values (answerOf x)) e),
-)
+-- what came back is what was expected, whose number is the smallest that applies
+told-by : {A : Type 0} (answerOf : A → Answer) (r expected : A) {conditions : List (Bool × ℕ)}
+    → Smallest (number (answerOf expected)) conditions → r ≡ expected → (r ≡ expected) × Paper (answerOf r) conditions (answerOf expected)
+told-by answerOf r expected {conditions} smallest e =
+    (e, (subst (λ x. Smallest (number (answerOf x)) conditions) (sym e) smallest, ap (λ x. values (answerOf x)) e))
 
 -- a call that is lent no table
 pub told : {r expected : Outcome} {conditions : List (Bool × ℕ)} → Smallest (number (expected .answer)) conditions → r ≡ expected
