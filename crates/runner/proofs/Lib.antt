@@ -5,8 +5,8 @@ mod Sizes
 mod ByCall
 mod LineLaws
 mod Written
-mod Feeding
 mod Finishing
+mod Feeding
 pub mod Laws
 pub mod Bounds
 mod Examples

@@ -1,3 +1,4 @@
 -- The definitions that the contracts cite. Assumes nothing.
 pub mod Listing
 pub mod Kept
+pub mod Ends
