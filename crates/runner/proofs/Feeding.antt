@@ -6,10 +6,9 @@ use Prim.Native.Nat.{ℕ, suc, _+_, _-_, _*_, _≤_, _<_}
 use native.Mathlib.Omega.{arith}
 use lib.Dec.{eqb}
 use lib.ListN.{length, take, drop, getD, set, length-append, length-drop, take-append-drop, length-set, drop-of-length-le}
-use lib.Seq.{take-all, length-take-le, drop-cons, drop-drop, take-suc-set, take-append-add, drop-append-add, take-at, drop-at}
+use lib.Seq.{take-all, length-take-le, drop-cons, drop-drop, take-suc-set, take-append-add, drop-append-add}
 use borrow.Author.Tests.{ne-eqb}
 use Rattle.machine.specs.declared.Machine.{Machine}
-use Rattle.machine.specs.Record.{blank}
 use Rattle.script.specs.declared.Columns.{Columns}
 use Rattle.script.specs.Pieces.{lines, free}
 use Rattle.script.proofs.Laws.{lines-newline}
@@ -27,7 +26,7 @@ use Rattle.runner.proofs.LineLaws.{byte-lost, line-said}
 use Rattle.runner.specs.Ends.{onward, count, goes, needsMachine}
 use Rattle.runner.proofs.Acts.{Done}
 use Rattle.runner.proofs.Sizes.{nothing-if-none}
-use Rattle.runner.proofs.Written.{put-long, put-whole, written as put-written}
+use Rattle.runner.proofs.Written.{written as put-written}
 use Rattle.runner.proofs.Finishing.{none-begun}
 
 abbrev pub reading : Bool → Columns → ℕ → List ℕ → ℕ → Machine → Reading
@@ -269,10 +268,7 @@ module _ (r₀ : Reading) (cs₀ ps₀ out₀ chunk : List ℕ) (r : Reading) (c
 
       put-line : (take k put-part ≡ line (r .number) (done .answer)) × (k ≤ 32)
           × (drop k put-part ≡ drop k (take (length out₁ - written) (drop written out₁)))
-      put-line =
-          put-written (r .number) (done .answer) _ put-part k
-          (put-long (r .number) (done .answer) _ put-part k (part-room out₁ written room₁) count bytes)
-          (put-whole (r .number) (done .answer) _ put-part k (part-room out₁ written room₁) count bytes)
+      put-line = put-written (r .number) (done .answer) _ put-part k (part-room out₁ written room₁) count bytes
 
 -- the same by other names
 pub feeding-same : {r₀ : Reading} {cs₀ ps₀ out₀ chunk l : List ℕ} {n length i : ℕ} {going going′ : Bool} {at at′ : Columns} {m m′ : Machine}

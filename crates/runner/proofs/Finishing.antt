@@ -1,15 +1,14 @@
 -- What is left to be listed at the script's end, and at its start. Assumes nothing.
 use mathlib.Core.Path.{_≡_, refl, sym, ap, subst, _∙_}
 use mathlib.Core.Bool.{Bool, true, false, _||_, true≢false}
-use mathlib.Core.List.{List, [], _∷_, _++_, append-nil}
+use mathlib.Core.List.{List, [], _∷_, _++_}
 use Prim.Native.Nat.{ℕ, _+_, _≤_, _<_}
 use native.Mathlib.Omega.{arith}
 use lib.Dec.{eqb, ltb}
-use lib.ListN.{length, take, drop}
+use lib.ListN.{length, take}
 use lib.Seq.{length-take-le}
 use borrow.Author.Tests.{eqb-true, eqb-false, ltb-true, ltb-false}
 use Rattle.machine.specs.Rule.{World}
-use Rattle.script.specs.declared.Columns.{Columns}
 use Rattle.script.specs.Pieces.{lines}
 use Rattle.script.proofs.Laws.{lines-empty, lines-newline}
 use Rattle.runner.specs.declared.Reading.{Reading}

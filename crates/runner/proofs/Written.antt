@@ -1,12 +1,11 @@
 -- What a line of the listing leaves in an output that has room for it. Assumes nothing.
 use mathlib.Core.Path.{_≡_, refl, sym, ap, subst, _∙_}
-use mathlib.Core.List.{List, [], _∷_, _++_}
+use mathlib.Core.Bool.{Bool, false}
+use mathlib.Core.List.{List, _++_}
 use Prim.Native.Nat.{ℕ, _+_, _≤_}
-use native.Mathlib.Omega.{arith}
 use lib.ListN.{length, take, drop}
 use lib.Seq.{take-at, drop-at}
 use borrow.Author.Tests.{le-ltb}
-use mathlib.Core.Bool.{Bool, false}
 use Rattle.machine.specs.Rule.{World}
 use Rattle.machine.specs.declared.Answer.{Answer}
 use Rattle.machine.specs.declared.Answer.the-variants.{Refused}
@@ -18,7 +17,16 @@ use Rattle.runner.specs.declared.lines.Ended.the-variants.{Lists}
 use Rattle.runner.specs.Kept.{next}
 use Rattle.runner.specs.Ends.{onward, count, goes, needsMachine}
 
--- an output that has room for the line gets all of it
+-- the line stands in front, and the bytes after it keep what they held
+in-front : (n : ℕ) (a : Answer) (out out′ : List ℕ) (k : ℕ) → k ≡ length (line n a) → out′ ≡ line n a ++ drop (length (line n a)) out
+    → (take k out′ ≡ line n a) × (k ≤ 32) × (drop k out′ ≡ drop k out)
+in-front n a out out′ k long whole = (
+  ap (take k) whole ∙ take-at (line n a) (drop (length (line n a)) out) k (sym long),
+  subst (λ (x : ℕ). x ≤ 32) (sym long) (line-short n a),
+  ap (drop k) whole ∙ drop-at (line n a) (drop (length (line n a)) out) k (sym long) ∙ ap (λ (x : ℕ). drop x out) (sym long),
+)
+
+-- an output that has room for a line gets all of it
 module _ (n : ℕ) (a : Answer) (out out′ : List ℕ) (k : ℕ) (room : 32 ≤ length out) (count : k ≡ length (fitting (line n a) out))
     (bytes : out′ ≡ put (line n a) out) where
   fits : fitting (line n a) out ≡ line n a
@@ -30,17 +38,8 @@ module _ (n : ℕ) (a : Answer) (out out′ : List ℕ) (k : ℕ) (room : 32 ≤
   pub put-whole : out′ ≡ line n a ++ drop (length (line n a)) out
   put-whole = bytes ∙ (unfold put in rw fits refl)
 
-  pub put-few : k ≤ 32
-  put-few = subst (λ (x : ℕ). x ≤ 32) (sym put-long) (line-short n a)
-
--- the line stands in front, and the bytes after it keep what they held
-pub written : (n : ℕ) (a : Answer) (out out′ : List ℕ) (k : ℕ) → k ≡ length (line n a) → out′ ≡ line n a ++ drop (length (line n a)) out
-    → (take k out′ ≡ line n a) × (k ≤ 32) × (drop k out′ ≡ drop k out)
-written n a out out′ k long whole = (
-  ap (take k) whole ∙ take-at (line n a) (drop (length (line n a)) out) k (sym long),
-  subst (λ (x : ℕ). x ≤ 32) (sym long) (line-short n a),
-  ap (drop k) whole ∙ drop-at (line n a) (drop (length (line n a)) out) k (sym long) ∙ ap (λ (x : ℕ). drop x out) (sym long),
-)
+  pub written : (take k out′ ≡ line n a) × (k ≤ 32) × (drop k out′ ≡ drop k out)
+  written = in-front n a out out′ k put-long put-whole
 
 -- what a refusal leaves, and whether lines are still read after it
 pub refusal-left : (at : Columns) (n k : ℕ) (going : Bool) (out out′ : List ℕ) (r : Ended)
@@ -50,5 +49,5 @@ pub refusal-left : (at : Columns) (n k : ℕ) (going : Bool) (out out′ : List 
     × (needsMachine r ≡ false) × (count r ≤ 32) × (drop (count r) out′ ≡ drop (count r) out) × (goes r ≡ going)
 unfolding onward
 refusal-left at n k going out out′ r is whole =
-    let put = written n (Refused k) out out′ _ refl whole in
+    let put = in-front n (Refused k) out out′ _ refl whole in
     rw is (λ w ls. ap (λ (x : List ℕ). x ++ next going at (n + 1) w ls) (put .0), refl, put .1, put .2, refl)

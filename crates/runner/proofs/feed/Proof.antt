@@ -3,7 +3,7 @@ use mathlib.Core.Path.{_≡_, refl, sym, ap, subst, _∙_}
 use mathlib.Core.Logic.{⊎-elim}
 use mathlib.Core.Bool.{true}
 use mathlib.Core.List.{List, _++_}
-use Prim.Native.Nat.{ℕ, _+_, _-_, _≤_, _<_}
+use Prim.Native.Nat.{ℕ, _+_, _-_, _≤_}
 use native.Mathlib.Omega.{arith}
 use lib.ListN as Nat
 use lib.Seq.{length-take-le}
@@ -21,7 +21,7 @@ use Rattle.runner.specs.Listing.{called}
 use Rattle.runner.proofs.Acts.{Done, done-same}
 use Rattle.runner.proofs.Sizes.{own-words, committed-room, pending-room, good-for-call}
 use Rattle.runner.proofs.ByCall.{setup-done, release-done, begin-done, give-up-done, finish-done, read-done, write-done, commit-done}
-use Rattle.runner.proofs.Written.{put-few}
+use Rattle.runner.proofs.Written.{written}
 use Rattle.runner.proofs.Feeding.{reading, Feeding, Left, feeding-starts, feeding-skips, feeding-loses, feeding-keeps, line-lists, line-calls, call-output, feeding-same, part-room, room-left, feeding-done}
 use Rattle.runner.proofs.feed.Statement.{statement}
 use Rattle.runner.proofs.feed.Tie as tie
@@ -239,8 +239,8 @@ add-written : tie.Need-add-written Inv-loop μ-loop
 add-written c =
     let at = c .before .before .before .before .before .before .before .before .before .before .before .before .before .before .before .before .before .before .before .before in
     let done = c .before .before in
-    let few = put-few (at .loop .number) _ _ _ _ (part-room (output₁ (c .before .before .before .before .before .before .before .before .before)) (at .loop .written) (room₁ (c .before .before .before .before .before .before .before .before .before))) (done .put-line .ensures .0) (done .put-line .ensures .1) in
-    record { fits = omega (arith, few, room (c .before .before .before .before .before .before .before .before .before .before .before .before .before .before .before .before .before .before .before), at .before .before .before .before .before .before .before .before .good .1 .1 .1 .1 .0 .0, at .loop .inv .out-long) }
+    let put = written (at .loop .number) _ _ _ _ (part-room (output₁ (c .before .before .before .before .before .before .before .before .before)) (at .loop .written) (room₁ (c .before .before .before .before .before .before .before .before .before))) (done .put-line .ensures .0) (done .put-line .ensures .1) in
+    record { fits = omega (arith, put .1, room (c .before .before .before .before .before .before .before .before .before .before .before .before .before .before .before .before .before .before .before), at .before .before .before .before .before .before .before .before .good .1 .1 .1 .1 .0 .0, at .loop .inv .out-long) }
 
 enum-known-ended-2 : tie.Need-enum-known-ended-2 Inv-loop μ-loop
 enum-known-ended-2 c = search needs

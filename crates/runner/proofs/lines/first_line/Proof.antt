@@ -1,5 +1,5 @@
 -- `runner::lines::first_line` meets its contract: the names are in some order, or bad. Assumes nothing.
-use mathlib.Core.Path.{_≡_, refl, sym, ap, _∙_}
+use mathlib.Core.Path.{refl, sym, _∙_}
 use native.Mathlib.Omega.{arith}
 use borrow.Author.Needs.{needs}
 use Rattle.runner.specs.Ends.{onward}
