@@ -69,6 +69,10 @@ abbrev pub Done : World → Result → Outcome → List ℕ → List ℕ → Typ
 Done w expected r cs ps =
     (said (r .answer) ≡ said (expected .answer)) × ((held (r .machine) cs ps ≡ expected .world) × Held (r .machine) cs ps)
 
+pub done-same : (w : World) (x : Result) {r r′ : Outcome} {cs cs′ ps ps′ : List ℕ} → cs ≡ cs′ → ps ≡ ps′ → r ≡ r′ → Done w x r′ cs′ ps′
+    → Done w x r cs ps
+done-same w x a b c d = rw (a, b, c) d
+
 module _ (m : Machine) (cs ps : List ℕ) (g : Good (held m cs ps)) (cl : length cs ≡ 64) (pl : length ps ≡ 1024) (call : Call) (r : Outcome) (e : ℕ) where
   -- the call was lent the first words, and left them as cs′ and ps′
   pub acted : (cs′ ps′ : List ℕ) → length cs′ ≡ length (take (m .objects) cs) → length ps′ ≡ length (take (m .cores * m .objects) ps)

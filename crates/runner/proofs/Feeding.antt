@@ -6,18 +6,28 @@ use Prim.Native.Nat.{ℕ, suc, _+_, _-_, _*_, _≤_, _<_}
 use native.Mathlib.Omega.{arith}
 use lib.Dec.{eqb}
 use lib.ListN.{length, take, drop, getD, set, length-append, length-drop, take-append-drop, length-set, drop-of-length-le}
-use lib.Seq.{take-all, length-take-le, drop-cons, drop-drop, take-suc-set, take-append-add, drop-append-add, take-at, drop-at}
+use lib.Seq.{take-all, length-take-le, drop-cons, drop-drop, take-suc-set, take-append-add, drop-append-add}
 use borrow.Author.Tests.{ne-eqb}
 use Rattle.machine.specs.declared.Machine.{Machine}
-use Rattle.machine.specs.Record.{blank}
 use Rattle.script.specs.declared.Columns.{Columns}
 use Rattle.script.specs.Pieces.{lines, free}
 use Rattle.script.proofs.Laws.{lines-newline}
+use Rattle.machine.specs.Rule.{World}
+use Rattle.machine.specs.declared.Outcome.{Outcome}
+use Rattle.script.specs.declared.Call.{Call}
+use Rattle.listing.specs.Text.{line, fitting, put}
 use Rattle.runner.specs.declared.Reading.{Reading}
+use Rattle.runner.specs.declared.lines.Listed.{Listed}
 use Rattle.runner.specs.declared.lines.Ended.{Ended}
-use Rattle.runner.specs.Listing.{mostLines}
+use Rattle.runner.specs.declared.lines.Ended.the-variants.{Calls, Lists}
+use Rattle.runner.specs.Listing.{nothing, called, mostLines}
 use Rattle.runner.specs.Kept.{held, next, begun, rest, Held, Fit}
-use Rattle.runner.proofs.LineLaws.{byte-lost}
+use Rattle.runner.proofs.LineLaws.{byte-lost, line-said}
+use Rattle.runner.specs.Ends.{onward, count, goes, needsMachine}
+use Rattle.runner.proofs.Acts.{Done}
+use Rattle.runner.proofs.Sizes.{nothing-if-none}
+use Rattle.runner.proofs.Written.{written as put-written}
+use Rattle.runner.proofs.Finishing.{none-begun}
 
 abbrev pub reading : Bool → Columns → ℕ → List ℕ → ℕ → Machine → Reading
 reading going columns number line length machine =
@@ -37,7 +47,7 @@ one-more : (n : ℕ) → suc n ≡ n + 1
 one-more n = omega arith
 
 -- after i bytes of the chunk: what is written and what is still to be listed make up what was to be listed at first, and the output's
--- other bytes keep what they held
+-- other bytes keep what they held; where the last of these bytes was a newline, nothing is left to be listed should the script end
 pub record Feeding (r₀ : Reading) (cs₀ ps₀ out₀ chunk : List ℕ) (r : Reading) (cs ps out : List ℕ) (written i : ℕ) : Type 0 where
   pub fit : Fit r cs ps
   pub within : i ≤ length chunk
@@ -45,10 +55,11 @@ pub record Feeding (r₀ : Reading) (cs₀ ps₀ out₀ chunk : List ℕ) (r : R
   pub out-long : length out ≡ length out₀
   pub listed : (bytes : List ℕ) → rest r₀ cs₀ ps₀ (chunk ++ bytes) ≡ take written out ++ rest r cs ps (drop i chunk ++ bytes)
   pub after : drop written out ≡ drop written out₀
+  pub ended : (j : ℕ) → j + 1 ≡ i → getD chunk j 0 ≡ 10 → rest r cs ps [] ≡ []
 
 pub feeding-starts : (r : Reading) (cs ps out chunk : List ℕ) → Fit r cs ps → Feeding r cs ps out chunk r cs ps out 0 0
 feeding-starts r cs ps out chunk f =
-    record { fit = f; within = omega arith; room = omega arith; out-long = refl; listed = λ bytes. refl; after = refl }
+    record { fit = f; within = omega arith; room = omega arith; out-long = refl; listed = λ bytes. refl; after = refl; ended = λ j e. absurd (omega (arith, e)) }
 
 module _ (r₀ : Reading) (cs₀ ps₀ out₀ chunk : List ℕ) (r : Reading) (cs ps out : List ℕ) (written i : ℕ)
     (f : Feeding r₀ cs₀ ps₀ out₀ chunk r cs ps out written i) (h : i < length chunk) where
@@ -61,8 +72,9 @@ module _ (r₀ : Reading) (cs₀ ps₀ out₀ chunk : List ℕ) (r : Reading) (c
 
   -- the output stays, and a reading that has the same bytes to come
   stays : (r′ : Reading) → Fit r′ cs ps
-      → ((bytes : List ℕ) → rest r cs ps (b ∷ bytes) ≡ rest r′ cs ps bytes) → Feeding r₀ cs₀ ps₀ out₀ chunk r′ cs ps out written (i + 1)
-  stays r′ fit′ e =
+      → ((bytes : List ℕ) → rest r cs ps (b ∷ bytes) ≡ rest r′ cs ps bytes) → (b ≡ 10 → rest r′ cs ps [] ≡ [])
+      → Feeding r₀ cs₀ ps₀ out₀ chunk r′ cs ps out written (i + 1)
+  stays r′ fit′ e over =
       record {
         fit = fit′;
         within = omega (arith, h);
@@ -72,11 +84,12 @@ module _ (r₀ : Reading) (cs₀ ps₀ out₀ chunk : List ℕ) (r : Reading) (c
             f .listed bytes ∙ ap (λ (x : List ℕ). take written out ++ rest r cs ps x) (next-byte bytes)
             ∙ ap (λ (x : List ℕ). take written out ++ x) (e (drop (i + 1) chunk ++ bytes));
         after = f .after;
+        ended = λ j at newline. over (subst (λ (k : ℕ). getD chunk k 0 ≡ 10) (omega (arith, at)) newline);
       }
 
   -- lines are read no more
   pub feeding-skips : r .going ≡ false → Feeding r₀ cs₀ ps₀ out₀ chunk r cs ps out written (i + 1)
-  feeding-skips over = stays r (f .fit) (λ bytes. unfold rest next in rw over refl)
+  feeding-skips over = stays r (f .fit) (λ bytes. unfold rest next in rw over refl) (λ e. unfold rest next in rw over refl)
 
   module _ (ne : b ≡ 10 → ⊥) where
     -- past 64 bytes, one byte more is not kept
@@ -89,6 +102,7 @@ module _ (r₀ : Reading) (cs₀ ps₀ out₀ chunk : List ℕ) (r : Reading) (c
         (subst (λ (n : ℕ). 64 < n)
         (sym (length-take-le (r .length) (r .line) (subst (λ (n : ℕ). r .length ≤ n) (sym (f .fit .line-long)) (f .fit .few-bytes))))
         long) ne)
+        (λ e. absurd (ne e))
 
     -- a byte joins the unfinished line
     pub feeding-keeps : r .length < 65
@@ -109,63 +123,64 @@ module _ (r₀ : Reading) (cs₀ ps₀ out₀ chunk : List ℕ) (r : Reading) (c
         unfold rest in
         ap (λ (x : List ℕ). next (r .going) (r .columns) (r .number) (held (r .machine) cs ps) (lines x))
         (sym (append-assoc (begun r) (b ∷ []) bytes) ∙ ap (λ (x : List ℕ). x ++ bytes) (sym joined)))
+        (λ e. absurd (ne e))
       where
         joined : take (r .length + 1) (set (r .line) (r .length) b) ≡ begun r ++ b ∷ []
         joined =
             sym (ap (λ (n : ℕ). take n (set (r .line) (r .length) b)) (one-more (r .length)))
             ∙ take-suc-set (r .line) (r .length) b (subst (λ (n : ℕ). r .length < n) (sym (f .fit .line-long)) short)
 
-  -- a line ends: `d` is what its end leaves, and `part` what it leaves of the output from `written` on
-  pub feeding-ends : b ≡ 10 → r .going ≡ true → (d : Ended) (cs′ ps′ part : List ℕ)
-      → ((ls : List (List ℕ))
-      → next true (r .columns) (r .number) (held (r .machine) cs ps) (begun r ∷ ls)
-      ≡ take (d .written) part ++ next (d .going) (d .columns) (r .number + 1) (held (d .machine) cs′ ps′) ls)
-      → Held (d .machine) cs′ ps′ → d .written ≤ 32 → drop (d .written) part ≡ drop (d .written) (drop written out)
-      → (d .going ≡ true → r .number ≤ mostLines) → length part ≡ length (drop written out) → written ≤ length out
-      → Feeding r₀ cs₀ ps₀ out₀ chunk (reading (d .going) (d .columns) (r .number + 1) (r .line) 0 (d .machine)) cs′ ps′
-      (take written out ++ part) (written + d .written) (i + 1)
-  feeding-ends newline going d cs′ ps′ part ends holds few rest-kept lines-few long within =
-      record {
-        fit = record {
-          holds = holds;
-          line-long = f .fit .line-long;
-          few-bytes = omega arith;
-          no-newline = unfold free in refl;
-          some-line = omega arith;
-          few-lines = λ e. omega (arith, lines-few e);
-          first-blank = λ e. absurd (omega (arith, f .fit .some-line, e));
-        };
-        within = omega (arith, h);
-        room = omega (arith, f .room, few);
-        out-long = length-append (take written out) part ∙ ap (λ (n : ℕ). length (take written out) + n) long
-            ∙ sym (length-append (take written out) (drop written out)) ∙ ap length (take-append-drop written out) ∙ f .out-long;
-        listed = λ bytes.
-            f .listed bytes ∙ ap (λ (x : List ℕ). take written out ++ rest r cs ps x) (next-byte bytes)
-            ∙ ap (λ (x : List ℕ). take written out ++ x) (ended (drop (i + 1) chunk ++ bytes))
-            ∙ sym (append-assoc (take written out) (take (d .written) part) _)
-            ∙ ap (λ (x : List ℕ). x ++ rest r′ cs′ ps′ (drop (i + 1) chunk ++ bytes)) (sym taken);
-        after = dropped ∙ rest-kept ∙ drop-drop (d .written) written out ∙ sym (drop-drop (d .written) written out) ∙ ap (drop (d .written)) (f .after)
-            ∙ drop-drop (d .written) written out₀;
-      }
-    where
-      r′ : Reading
-      r′ = reading (d .going) (d .columns) (r .number + 1) (r .line) 0 (d .machine)
+  -- a line ends: k bytes are written, and `part` is what it leaves of the output from `written` on
+  module _ (newline : b ≡ 10) (going : r .going ≡ true) (going′ : Bool) (at′ : Columns) (m′ : Machine) (k : ℕ) (cs′ ps′ part : List ℕ) where
+    abbrev r′ : Reading
+    r′ = reading going′ at′ (r .number + 1) (r .line) 0 m′
 
-      front : length (take written out) ≡ written
-      front = length-take-le written out within
+    pub feeding-ends : ((ls : List (List ℕ))
+        → next true (r .columns) (r .number) (held (r .machine) cs ps) (begun r ∷ ls)
+        ≡ take k part ++ next going′ at′ (r .number + 1) (held m′ cs′ ps′) ls)
+        → Held m′ cs′ ps′ → k ≤ 32 → drop k part ≡ drop k (drop written out) → (going′ ≡ true → r .number ≤ mostLines)
+        → length part ≡ length (drop written out) → written ≤ length out
+        → Feeding r₀ cs₀ ps₀ out₀ chunk r′ cs′ ps′ (take written out ++ part) (written + k) (i + 1)
+    feeding-ends ends holds few rest-kept lines-few long within =
+        record {
+          fit = record {
+            holds = holds;
+            line-long = f .fit .line-long;
+            few-bytes = omega arith;
+            no-newline = unfold free in refl;
+            some-line = omega arith;
+            few-lines = λ e. omega (arith, lines-few e);
+            first-blank = λ e. absurd (omega (arith, f .fit .some-line, e));
+          };
+          within = omega (arith, h);
+          room = omega (arith, f .room, few);
+          out-long = length-append (take written out) part ∙ ap (λ (n : ℕ). length (take written out) + n) long
+              ∙ sym (length-append (take written out) (drop written out)) ∙ ap length (take-append-drop written out) ∙ f .out-long;
+          listed = λ bytes.
+              f .listed bytes ∙ ap (λ (x : List ℕ). take written out ++ rest r cs ps x) (next-byte bytes)
+              ∙ ap (λ (x : List ℕ). take written out ++ x) (line-ended (drop (i + 1) chunk ++ bytes))
+              ∙ sym (append-assoc (take written out) (take k part) _)
+              ∙ ap (λ (x : List ℕ). x ++ rest r′ cs′ ps′ (drop (i + 1) chunk ++ bytes)) (sym taken);
+          after = dropped ∙ rest-kept ∙ drop-drop k written out ∙ sym (drop-drop k written out) ∙ ap (drop k) (f .after)
+              ∙ drop-drop k written out₀;
+          ended = λ j at last. none-begun r′ cs′ ps′ refl (omega (arith, f .fit .some-line));
+        }
+      where
+        front : length (take written out) ≡ written
+        front = length-take-le written out within
 
-      taken : take (written + d .written) (take written out ++ part) ≡ take written out ++ take (d .written) part
-      taken =
-          subst (λ (n : ℕ). take (n + d .written) (take written out ++ part) ≡ take written out ++ take (d .written) part) front
-          (take-append-add (take written out) part (d .written))
+        taken : take (written + k) (take written out ++ part) ≡ take written out ++ take k part
+        taken =
+            subst (λ (n : ℕ). take (n + k) (take written out ++ part) ≡ take written out ++ take k part) front
+            (take-append-add (take written out) part k)
 
-      dropped : drop (written + d .written) (take written out ++ part) ≡ drop (d .written) part
-      dropped =
-          subst (λ (n : ℕ). drop (n + d .written) (take written out ++ part) ≡ drop (d .written) part) front
-          (drop-append-add (take written out) part (d .written))
+        dropped : drop (written + k) (take written out ++ part) ≡ drop k part
+        dropped =
+            subst (λ (n : ℕ). drop (n + k) (take written out ++ part) ≡ drop k part) front
+            (drop-append-add (take written out) part k)
 
-      ended : (bytes : List ℕ) → rest r cs ps (b ∷ bytes) ≡ take (d .written) part ++ rest r′ cs′ ps′ bytes
-      ended bytes = unfold rest in rw (newline, going, lines-newline (begun r) bytes (f .fit .no-newline)) (ends (lines bytes))
+        line-ended : (bytes : List ℕ) → rest r cs ps (b ∷ bytes) ≡ take k part ++ rest r′ cs′ ps′ bytes
+        line-ended bytes = unfold rest in rw (newline, going, lines-newline (begun r) bytes (f .fit .no-newline)) (ends (lines bytes))
 
 -- the output's part from `written` on, as it is lent: its own bytes, and none after it
 part-whole : (out : List ℕ) (written : ℕ) → take (length out - written) (drop written out) ≡ drop written out
@@ -182,21 +197,85 @@ pub room-left : {r₀ : Reading} {cs₀ ps₀ out₀ chunk : List ℕ} {r : Read
     → Feeding r₀ cs₀ ps₀ out₀ chunk r cs ps out written i → i < length chunk → 32 * length chunk ≤ length out₀ → written + 32 ≤ length out
 room-left f h room = omega (arith, f .room, f .out-long, h, room)
 
+-- what `end_line` leaves, where `part` is what it leaves of the output from `written` on
+abbrev pub Left : Reading → List ℕ → ℕ → Ended → List ℕ → Type 0
+Left r out written e part =
+    ((w : World) → (r .machine .cores ≡ 0 → w ≡ nothing) → (ls : List (List ℕ))
+    → next true (r .columns) (r .number) w (begun r ∷ ls) ≡ onward e part (r .columns) (r .number) w ls)
+    × ((needsMachine e ≡ true → r .machine .cores ≡ 0 → ⊥) × (count e ≤ 32)
+    × (drop (count e) part ≡ drop (count e) (take (length out - written) (drop written out))) × (goes e ≡ true → r .number ≤ mostLines))
+
 module _ (r₀ : Reading) (cs₀ ps₀ out₀ chunk : List ℕ) (r : Reading) (cs ps out : List ℕ) (written i : ℕ)
-    (f : Feeding r₀ cs₀ ps₀ out₀ chunk r cs ps out written i) (h : i < length chunk) where
-  pub line-ends : getD chunk i 0 ≡ 10 → r .going ≡ true → (d : Ended) (cs′ ps′ part : List ℕ)
+    (f : Feeding r₀ cs₀ ps₀ out₀ chunk r cs ps out written i) (h : i < length chunk) (newline : getD chunk i 0 ≡ 10) (going : r .going ≡ true)
+    (within : written ≤ length out) where
+  -- the output, whose part from `written` on was lent and came back
+  abbrev lent-back : List ℕ → List ℕ
+  lent-back part = take written out ++ (part ++ drop (length out - written) (drop written out))
+
+  line-ends : (going′ : Bool) (at′ : Columns) (m′ : Machine) (k : ℕ) (cs′ ps′ part : List ℕ)
       → ((ls : List (List ℕ))
       → next true (r .columns) (r .number) (held (r .machine) cs ps) (begun r ∷ ls)
-      ≡ take (d .written) part ++ next (d .going) (d .columns) (r .number + 1) (held (d .machine) cs′ ps′) ls)
-      → Held (d .machine) cs′ ps′ × (d .written ≤ 32) × (drop (d .written) part ≡ drop (d .written) (take (length out - written) (drop written out)))
-      × (d .going ≡ true → r .number ≤ mostLines)
-      → length part ≡ length (take (length out - written) (drop written out)) → written ≤ length out
-      → Feeding r₀ cs₀ ps₀ out₀ chunk (reading (d .going) (d .columns) (r .number + 1) (r .line) 0 (d .machine)) cs′ ps′
-      (take written out ++ (part ++ drop (length out - written) (drop written out))) (written + d .written) (i + 1)
-  line-ends newline going d cs′ ps′ part ends left long within =
+      ≡ take k part ++ next going′ at′ (r .number + 1) (held m′ cs′ ps′) ls)
+      → Held m′ cs′ ps′ → (going′ ≡ true → r .number ≤ mostLines)
+      → k ≤ 32 → drop k part ≡ drop k (take (length out - written) (drop written out))
+      → length part ≡ length (take (length out - written) (drop written out))
+      → Feeding r₀ cs₀ ps₀ out₀ chunk (reading going′ at′ (r .number + 1) (r .line) 0 m′) cs′ ps′ (lent-back part) (written + k) (i + 1)
+  line-ends going′ at′ m′ k cs′ ps′ part ends holds lines-few few kept long =
       rw (part-last out written, append-nil part)
-      (feeding-ends r₀ cs₀ ps₀ out₀ chunk r cs ps out written i f h newline going d cs′ ps′ part ends (left .0) (left .1)
-      (left .2 ∙ ap (drop (d .written)) (part-whole out written)) (left .3) (long ∙ ap length (part-whole out written)) within)
+      (feeding-ends r₀ cs₀ ps₀ out₀ chunk r cs ps out written i f h newline going going′ at′ m′ k cs′ ps′ part ends holds few
+      (kept ∙ ap (drop k) (part-whole out written)) lines-few (long ∙ ap length (part-whole out written)) within)
+
+  pub line-lists : (l : Listed) (part : List ℕ) → Left r out written (Lists l) part → length part ≡ length (take (length out - written) (drop written out))
+      → Feeding r₀ cs₀ ps₀ out₀ chunk (reading (l .going) (l .columns) (r .number + 1) (r .line) 0 (r .machine)) cs ps (lent-back part)
+      (written + l .written) (i + 1)
+  unfolding onward
+  line-lists l part left long =
+      line-ends (l .going) (l .columns) (r .machine) (l .written) cs ps part
+      (left .0 (held (r .machine) cs ps) (nothing-if-none (r .machine) cs ps (f .fit .holds))) (f .fit .holds) (left .1 .3) (left .1 .1)
+      (left .1 .2) long
+
+-- a call's output is as it was
+pub call-output : (out part : List ℕ) (written : ℕ) → drop 0 part ≡ drop 0 (take (length out - written) (drop written out))
+    → take written out ++ (part ++ drop (length out - written) (drop written out)) ≡ out
+call-output out part written e =
+    ap (λ (x : List ℕ). take written out ++ (x ++ drop (length out - written) (drop written out))) e
+    ∙ ap (λ (x : List ℕ). take written out ++ x) (take-append-drop (length out - written) (drop written out)) ∙ take-append-drop written out
+
+module _ (r₀ : Reading) (cs₀ ps₀ out₀ chunk : List ℕ) (r : Reading) (cs ps out : List ℕ) (written i : ℕ)
+    (f : Feeding r₀ cs₀ ps₀ out₀ chunk r cs ps out written i) (h : i < length chunk) (newline : getD chunk i 0 ≡ 10) (going : r .going ≡ true)
+    (room : written + 32 ≤ length out) where
+  -- a call that the line asks for is made, and its answer is put where the output is as it was
+  pub line-calls : (call : Call) (part out₁ : List ℕ) → Left r out written (Calls call) part
+      → out₁ ≡ out → (done : Outcome) (cs′ ps′ : List ℕ) → Done (held (r .machine) cs ps) (called (held (r .machine) cs ps) call) done cs′ ps′
+      → (k : ℕ) (put-part : List ℕ)
+      → k ≡ length (fitting (line (r .number) (done .answer)) (take (length out₁ - written) (drop written out₁)))
+      → put-part ≡ put (line (r .number) (done .answer)) (take (length out₁ - written) (drop written out₁))
+      → length put-part ≡ length (take (length out₁ - written) (drop written out₁))
+      → Feeding r₀ cs₀ ps₀ out₀ chunk (reading (r .going) (r .columns) (r .number + 1) (r .line) 0 (done .machine)) cs′ ps′
+      (take written out₁ ++ (put-part ++ drop (length out₁ - written) (drop written out₁))) (written + k) (i + 1)
+  unfolding onward
+  line-calls call part out₁ left same done cs′ ps′ ran k put-part count bytes long =
+      line-ends r₀ cs₀ ps₀ out₀ chunk r cs ps out₁ written i
+      (subst (λ (o : List ℕ). Feeding r₀ cs₀ ps₀ out₀ chunk r cs ps o written i) (sym same) f) h newline going (omega (arith, room₁))
+      (r .going) (r .columns) (done .machine) k cs′ ps′ put-part
+      (λ ls.
+      left .0 (held (r .machine) cs ps) (nothing-if-none (r .machine) cs ps (f .fit .holds)) ls
+      ∙ rw (going, ran .1 .0, put-line .0, line-said (r .number) (done .answer) _ (ran .0)) refl)
+      (ran .1 .1) (λ e. left .1 .3 refl) (put-line .1) (put-line .2) long
+    where
+      room₁ : written + 32 ≤ length out₁
+      room₁ = subst (λ (o : List ℕ). written + 32 ≤ length o) (sym same) room
+
+      put-line : (take k put-part ≡ line (r .number) (done .answer)) × (k ≤ 32)
+          × (drop k put-part ≡ drop k (take (length out₁ - written) (drop written out₁)))
+      put-line = put-written (r .number) (done .answer) _ put-part k (part-room out₁ written room₁) count bytes
+
+-- the same by other names
+pub feeding-same : {r₀ : Reading} {cs₀ ps₀ out₀ chunk l : List ℕ} {n length i : ℕ} {going going′ : Bool} {at at′ : Columns} {m m′ : Machine}
+    {cs cs′ ps ps′ out out′ : List ℕ} {k k′ : ℕ} → cs ≡ cs′ → ps ≡ ps′ → out ≡ out′ → going ≡ going′ → at ≡ at′ → m ≡ m′ → k ≡ k′
+    → Feeding r₀ cs₀ ps₀ out₀ chunk (reading going′ at′ n l length m′) cs′ ps′ out′ k′ i
+    → Feeding r₀ cs₀ ps₀ out₀ chunk (reading going at n l length m) cs ps out k i
+feeding-same a b c d e f g x = rw (a, b, c, d, e, f, g) x
 
 -- the whole chunk
 pub feeding-done : {r₀ : Reading} {cs₀ ps₀ out₀ chunk : List ℕ} {r : Reading} {cs ps out : List ℕ} {written i : ℕ}

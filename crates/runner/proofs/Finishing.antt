@@ -1,21 +1,28 @@
 -- What is left to be listed at the script's end, and at its start. Assumes nothing.
 use mathlib.Core.Path.{_≡_, refl, sym, ap, subst, _∙_}
 use mathlib.Core.Bool.{Bool, true, false, _||_, true≢false}
-use mathlib.Core.List.{List, [], _∷_, _++_, append-nil}
+use mathlib.Core.List.{List, [], _∷_, _++_}
 use Prim.Native.Nat.{ℕ, _+_, _≤_, _<_}
 use native.Mathlib.Omega.{arith}
 use lib.Dec.{eqb, ltb}
-use lib.ListN.{length, take, drop}
+use lib.ListN.{length, take}
 use lib.Seq.{length-take-le}
 use borrow.Author.Tests.{eqb-true, eqb-false, ltb-true, ltb-false}
 use Rattle.machine.specs.Rule.{World}
-use Rattle.script.specs.declared.Columns.{Columns}
 use Rattle.script.specs.Pieces.{lines}
-use Rattle.script.proofs.Laws.{lines-empty}
+use Rattle.script.proofs.Laws.{lines-empty, lines-newline}
 use Rattle.runner.specs.declared.Reading.{Reading}
 use Rattle.runner.specs.Listing.{body}
 use Rattle.runner.specs.Kept.{held, next, begun, rest, Fit}
 use Rattle.runner.proofs.LineLaws.{last-line, no-line, no-names}
+
+-- no byte of a line, after the line of names
+pub none-begun : (r : Reading) (cs ps : List ℕ) → r .length ≡ 0 → 1 < r .number → rest r cs ps [] ≡ []
+unfolding rest
+none-begun r cs ps none later =
+    ap (λ (n : ℕ). next (r .going) (r .columns) (r .number) (held (r .machine) cs ps) (lines (take n (r .line) ++ []))) none
+    ∙ ap (next (r .going) (r .columns) (r .number) (held (r .machine) cs ps)) lines-empty
+    ∙ no-line (r .going) (r .columns) (r .number) (held (r .machine) cs ps) later
 
 module _ (r : Reading) (cs ps : List ℕ) (f : Fit r cs ps) where
   abbrev w : World
@@ -28,30 +35,23 @@ module _ (r : Reading) (cs ps : List ℕ) (f : Fit r cs ps) where
 
   -- no line is left
   pub none-left : eqb (r .number) 1 || ltb 0 (r .length) ≡ false → [] ≡ rest r cs ps []
-  unfolding rest
   none-left e = go (eqb (r .number) 1) refl (ltb 0 (r .length)) refl e
     where
-      go : (a : Bool) → eqb (r .number) 1 ≡ a → (b : Bool) → ltb 0 (r .length) ≡ b → a || b ≡ false
-          → [] ≡ next (r .going) (r .columns) (r .number) w (lines (begun r ++ []))
+      go : (a : Bool) → eqb (r .number) 1 ≡ a → (b : Bool) → ltb 0 (r .length) ≡ b → a || b ≡ false → [] ≡ rest r cs ps []
       go true i b j e = absurd (true≢false e)
       go false i true j e = absurd (true≢false e)
       go false i false j e =
-          let no-byte : r .length ≡ 0 = omega (arith, ltb-false 0 (r .length) j) in
           sym
-          (ap (λ (n : ℕ). next (r .going) (r .columns) (r .number) w (lines (take n (r .line) ++ []))) no-byte
-          ∙ ap (next (r .going) (r .columns) (r .number) w) lines-empty
-          ∙ no-line (r .going) (r .columns) (r .number) w (omega (arith, f .some-line, eqb-false (r .number) 1 i)))
+          (none-begun r cs ps (omega (arith, ltb-false 0 (r .length) j))
+          (omega (arith, f .some-line, eqb-false (r .number) 1 i)))
 
-  -- a line is left, and this is what it adds
-  pub line-left : r .going ≡ true → eqb (r .number) 1 || ltb 0 (r .length) ≡ true → (text : List ℕ) (going : Bool) (at : Columns) (w′ : World)
-      → ((ls : List (List ℕ)) → next true (r .columns) (r .number) w (begun r ∷ ls) ≡ text ++ next going at (r .number + 1) w′ ls)
-      → text ≡ rest r cs ps []
+  -- a line is left: a newline would end it
+  pub line-left : r .going ≡ true → eqb (r .number) 1 || ltb 0 (r .length) ≡ true → rest r cs ps (10 ∷ []) ≡ rest r cs ps []
   unfolding rest
-  line-left on e text going at w′ ends =
-      sym
-      (ap (λ (g : Bool). next g (r .columns) (r .number) w (lines (begun r ++ []))) on
-      ∙ go (eqb (r .number) 1) refl (ltb 0 (r .length)) refl e ∙ ends []
-      ∙ ap (λ (x : List ℕ). text ++ x) (no-line going at (r .number + 1) w′ (omega (arith, f .some-line))) ∙ append-nil text)
+  line-left on e =
+      rw on
+      (ap (next true (r .columns) (r .number) w) (lines-newline (begun r) [] (f .no-newline) ∙ ap (λ (ls : List (List ℕ)). begun r ∷ ls) lines-empty)
+      ∙ sym (go (eqb (r .number) 1) refl (ltb 0 (r .length)) refl e))
     where
       some : 0 < r .length → next true (r .columns) (r .number) w (lines (begun r ++ [])) ≡ next true (r .columns) (r .number) w (begun r ∷ [])
       some h =

@@ -6,8 +6,8 @@ mod ByCall
 mod LineLaws
 mod Stepping
 mod Written
-mod Feeding
 mod Finishing
+mod Feeding
 pub mod Laws
 pub mod Runs
 pub mod Bounds

@@ -1,13 +1,16 @@
 -- What the listing says of a line that has ended, and of a byte more of a line that has not. Assumes nothing.
-use mathlib.Core.Path.{_≡_, refl, sym, ap, subst, _∙_}
-use mathlib.Core.Bool.{Bool, true, false, cond, not, _&&_, true≢false}
-use mathlib.Core.List.{List, [], _∷_, _++_, append-nil, append-assoc}
-use Prim.Native.Nat.{ℕ, suc, _+_, _≤_, _<_}
+use mathlib.Core.Path.{_≡_, refl, sym, ap, _∙_}
+use mathlib.Core.Bool.{Bool, true, false, not}
+use mathlib.Core.List.{List, [], _∷_, _++_, append-nil}
+use Prim.Native.Nat.{ℕ, _+_, _≤_, _<_}
 use native.Mathlib.Omega.{arith}
-use lib.Dec.{eqb, ltb}
-use lib.ListN.{length, length-append}
-use borrow.Author.Tests.{eq-eqb, ne-eqb, lt-ltb, le-ltb}
-use Rattle.machine.specs.Rule.{World, Result}
+use lib.Dec.{eqb}
+use lib.ListN.{length, length-append, replicate, length-replicate}
+use types.Run.{OneOf, miss}
+use denote.Enum.Declared.{tagOf}
+use borrow.Author.Tests.{ne-eqb, lt-ltb, le-ltb}
+use Rattle.machine.specs.Record.{blank}
+use Rattle.machine.specs.Rule.{World}
 use Rattle.machine.specs.declared.Answer.{Answer}
 use Rattle.machine.specs.declared.Answer.the-variants.{Refused}
 use Rattle.script.specs.declared.Columns.{Columns}
@@ -16,13 +19,17 @@ use Rattle.script.specs.declared.Names.the-variants as Names
 use Rattle.script.specs.declared.Line.{Line}
 use Rattle.script.specs.declared.Line.the-variants as Line
 use Rattle.script.specs.declared.Call.{Call}
+use Rattle.script.specs.declared.Call.the-variants as Call
+use Rattle.script.proofs.Call as CallType
 use Rattle.script.specs.Pieces.{lines, pieces, onto, ended, free}
 use Rattle.script.specs.Line.{names, spells, fields, ordered, place}
-use Rattle.script.proofs.Laws.{too-long, names-too-long, lines-begun, lines-newline, lines-last, lines-empty, some-piece, first, others, rest-of-line, later-lines}
+use Rattle.script.proofs.Laws.{too-long, names-too-long, lines-begun, lines-last, some-piece, first, others, rest-of-line, later-lines}
 use Rattle.decimal.specs.Spelling.{spelling}
 use Rattle.listing.specs.Text.{line, said}
 use Rattle.runner.specs.Listing.{nothing, called, answered, mostLines, listed, named, body}
 use Rattle.runner.specs.Kept.{next}
+use Rattle.runner.specs.Ends.{onMachine}
+use Rattle.runner.proofs.ByCall.{first-refused}
 
 -- ---- a line that has ended
 
@@ -36,19 +43,17 @@ module _ (at : Columns) (w : World) (l : List ℕ) (ls : List (List ℕ)) where
   unfolding next body named
   names-good at′ e = rw e refl
 
-  -- here and below, `text` is what the output holds
-  pub names-bad : (text : List ℕ) → text ≡ line 1 (Refused 11) → names l ≡ Names.Malformed → next true at 1 w (l ∷ ls) ≡ text ++ next false at 2 w ls
+  pub names-bad : names l ≡ Names.Malformed → next true at 1 w (l ∷ ls) ≡ line 1 (Refused 11) ++ next false at 2 w ls
   unfolding next body named
-  names-bad text t e = rw (e, append-nil text) (sym t)
+  names-bad e = rw e (sym (append-nil (line 1 (Refused 11))))
 
   module _ (n : ℕ) (later : 1 < n) where
     not-first : eqb n 1 ≡ false
     not-first = ne-eqb n 1 (λ e. omega (arith, later, e))
 
-    pub past-most : (text : List ℕ) → text ≡ line n (Refused 11) → mostLines < n
-        → next true at n w (l ∷ ls) ≡ text ++ next false at (n + 1) w ls
+    pub past-most : mostLines < n → next true at n w (l ∷ ls) ≡ line n (Refused 11) ++ next false at (n + 1) w ls
     unfolding next listed
-    past-most text t h = rw (not-first, lt-ltb mostLines n h, append-nil text) (sym t)
+    past-most h = rw (not-first, lt-ltb mostLines n h) (sym (append-nil (line n (Refused 11))))
 
     pub line-run : n ≤ mostLines
         → next true at n w (l ∷ ls)
@@ -59,24 +64,36 @@ module _ (at : Columns) (w : World) (l : List ℕ) (ls : List (List ℕ)) where
         after : (ls : List (List ℕ)) → next true at (n + 1) (answered w (spells at l) .world) ls ≡ listed at (answered w (spells at l) .world) (n + 1) ls
         after ls = rw (ne-eqb (n + 1) 1 (λ e. omega (arith, later, e))) refl
 
--- the line of names, as line n of a blank record
-pub first-ends : (at at′ : Columns) (going : Bool) (n : ℕ) (w w′ : World) (l text : List ℕ) (ls : List (List ℕ)) → n ≡ 1 → w ≡ nothing
-    → w′ ≡ nothing → next true at 1 nothing (l ∷ ls) ≡ text ++ next going at′ 2 nothing ls
-    → next true at n w (l ∷ ls) ≡ text ++ next going at′ (n + 1) w′ ls
-first-ends at at′ going n w w′ l text ls one blank blank′ e = rw (one, blank, blank′) e
-
 -- a line that spells no call, and one that does
 module _ (at : Columns) (w : World) (l : List ℕ) (ls : List (List ℕ)) (n : ℕ) (later : 1 < n) (few : n ≤ mostLines) where
-  pub line-malformed : (text : List ℕ) → text ≡ line n (Refused 11) → spells at l ≡ Line.Malformed
-      → next true at n w (l ∷ ls) ≡ text ++ next true at (n + 1) w ls
+  pub line-malformed : spells at l ≡ Line.Malformed → next true at n w (l ∷ ls) ≡ line n (Refused 11) ++ next true at (n + 1) w ls
   unfolding answered
-  line-malformed text t e = line-run at w l ls n later few ∙ rw (e, t) refl
+  line-malformed e = line-run at w l ls n later few ∙ rw e refl
 
-  pub line-called : (text : List ℕ) (call : Call) (a : Answer) (w′ : World) → text ≡ line n a → spells at l ≡ Line.Spells call
-      → said a ≡ said (called w call .answer) → w′ ≡ called w call .world → next true at n w (l ∷ ls) ≡ text ++ next true at (n + 1) w′ ls
+  pub line-called : (call : Call) → spells at l ≡ Line.Spells call
+      → next true at n w (l ∷ ls) ≡ line n (called w call .answer) ++ next true at (n + 1) (called w call .world) ls
   unfolding answered
-  line-called text call a w′ t e says after =
-      line-run at w l ls n later few ∙ rw (e, after, t, line-said n a (called w call .answer) says) refl
+  line-called call e = line-run at w l ls n later few ∙ rw e refl
+
+  -- with no machine, any call but setup is refused
+  pub line-unfounded : (call : Call) → spells at l ≡ Line.Spells call → w ≡ nothing
+      → OneOf (1 ∷ 2 ∷ 3 ∷ 4 ∷ 5 ∷ 6 ∷ 7 ∷ []) (tagOf CallType.the-type call)
+      → next true at n w (l ∷ ls) ≡ line n (Refused 2) ++ next true at (n + 1) w ls
+  line-unfounded call e none h =
+      let refused = first-refused blank (replicate 64 0) (replicate 1024 0) call refl (length-replicate {A = ℕ} 64 0) (length-replicate {A = ℕ} 1024 0) h in
+      line-called call e
+      ∙ rw (none, sym (refused .1 .0)) (ap (λ (x : List ℕ). x ++ next true at (n + 1) nothing ls) (sym (line-said n (Refused 2) _ (refused .0))))
+
+-- the first of the enum needs no machine
+pub setup-alone : (call : Call) → OneOf (0 ∷ []) (tagOf CallType.the-type call) → onMachine call ≡ false
+setup-alone (Call.Setup cores cards) h = refl
+setup-alone (Call.Release c number deadline) h = absurd (miss (0 ∷ []) 1 tt h)
+setup-alone (Call.Begin c) h = absurd (miss (0 ∷ []) 2 tt h)
+setup-alone (Call.Read c d) h = absurd (miss (0 ∷ []) 3 tt h)
+setup-alone (Call.Write c d v) h = absurd (miss (0 ∷ []) 4 tt h)
+setup-alone (Call.Commit c) h = absurd (miss (0 ∷ []) 5 tt h)
+setup-alone (Call.GiveUp c) h = absurd (miss (0 ∷ []) 6 tt h)
+setup-alone (Call.Finish c) h = absurd (miss (0 ∷ []) 7 tt h)
 
 -- ---- a byte more of a line that has not ended
 

@@ -1,30 +1,45 @@
--- A sound machine's own words of the tables: at most 64 and at most 1,024. Assumes nothing.
-use mathlib.Core.Path.{_≡_, sym, ap, subst}
+-- A record's own words of the tables, at most 64 and at most 1,024, and when it is sound. Assumes nothing.
+use mathlib.Core.Path.{_≡_, sym, ap, subst, _∙_}
 use mathlib.Core.Logic.{⊎-elim}
+use mathlib.Core.Bool.{true}
 use mathlib.Core.List.{List}
 use Prim.Native.Nat.{ℕ, _*_, _≤_}
 use lib.ListN.{length}
 use native.Mathlib.Omega.{arith}
-use Rattle.machine.specs.Record.{blank}
 use Rattle.machine.specs.declared.Machine.{Machine}
 use Rattle.machine.specs.Inside.{Good}
 use Rattle.machine.proofs.Sound.Keeps.{whole}
+use Rattle.script.specs.declared.Call.{Call}
+use Rattle.runner.specs.declared.lines.Ended.{Ended}
+use Rattle.runner.specs.declared.lines.Ended.the-variants.{Calls}
+use Rattle.runner.specs.Listing.{nothing}
 use Rattle.runner.specs.Kept.{held, Held}
+use Rattle.runner.specs.Ends.{onMachine, needsMachine}
 use Rattle.runner.proofs.Setups.{few-words}
 
-module _ (m : Machine) (cs ps : List ℕ) (g : Good (held m cs ps)) where
-  pub own-words : m .cores * m .objects ≤ 1024
-  own-words = few-words (m .cores) (m .objects) (whole g .rules .few-cores) (whole g .rules .few-objects)
-
-  pub committed-room : length cs ≡ 64 → m .objects ≤ length cs
-  committed-room l = subst (λ (n : ℕ). m .objects ≤ n) (sym l) (whole g .rules .few-objects)
-
-  pub pending-room : length ps ≡ 1024 → m .cores * m .objects ≤ length ps
-  pending-room l = subst (λ (n : ℕ). m .cores * m .objects ≤ n) (sym l) own-words
-
 module _ (m : Machine) (cs ps : List ℕ) (h : Held m cs ps) where
-  pub blank-if-none : m .cores ≡ 0 → m ≡ blank
-  blank-if-none e = ⊎-elim (λ b. b) (λ g. absurd (omega (arith, e, whole g .rules .some-cores))) (h .blank-or-good)
+  pub own-words : m .cores * m .objects ≤ 1024
+  own-words =
+      ⊎-elim (λ b. subst (λ (x : Machine). x .cores * x .objects ≤ 1024) (sym b) (omega arith))
+      (λ g. few-words (m .cores) (m .objects) (whole g .rules .few-cores) (whole g .rules .few-objects)) (h .blank-or-good)
 
-  pub good-if-some : (m .cores ≡ 0 → ⊥) → Good (held m cs ps)
+  pub committed-room : m .objects ≤ length cs
+  committed-room =
+      subst (λ (n : ℕ). m .objects ≤ n) (sym (h .committed-long))
+      (⊎-elim (λ b. subst (λ (x : Machine). x .objects ≤ 64) (sym b) (omega arith)) (λ g. whole g .rules .few-objects) (h .blank-or-good))
+
+  pub pending-room : m .cores * m .objects ≤ length ps
+  pending-room = subst (λ (n : ℕ). m .cores * m .objects ≤ n) (sym (h .pending-long)) own-words
+
+  -- a record with no core is blank, any other is sound
+  pub nothing-if-none : m .cores ≡ 0 → held m cs ps ≡ nothing
+  nothing-if-none e =
+      ap (λ (x : Machine). held x cs ps) (⊎-elim (λ b. b) (λ g. absurd (omega (arith, e, whole g .rules .some-cores))) (h .blank-or-good))
+
+  good-if-some : (m .cores ≡ 0 → ⊥) → Good (held m cs ps)
   good-if-some e = ⊎-elim (λ b. absurd (e (ap (λ (x : Machine). x .cores) b))) (λ g. g) (h .blank-or-good)
+
+  -- the end of a line asks for a call that needs a machine only where there is one
+  pub good-for-call : (e : Ended) (call : Call) → e ≡ Calls call → (needsMachine e ≡ true → m .cores ≡ 0 → ⊥) → (x : Call) → call ≡ x
+      → onMachine x ≡ true → Good (held m cs ps)
+  good-for-call e call is found x spelt needs = good-if-some (found (ap needsMachine is ∙ ap onMachine spelt ∙ needs))

@@ -1,46 +1,53 @@
--- What a line of the listing leaves in an output that has room for it, and what a parsed line is that is not the one asked for.
--- Assumes nothing.
+-- What a line of the listing leaves in an output that has room for it. Assumes nothing.
 use mathlib.Core.Path.{_≡_, refl, sym, ap, subst, _∙_}
-use mathlib.Core.List.{List, [], _∷_, _++_}
-use Prim.Native.Nat.{ℕ, _≤_}
-use native.Mathlib.Omega.{arith}
+use mathlib.Core.Bool.{Bool, false}
+use mathlib.Core.List.{List, _++_}
+use Prim.Native.Nat.{ℕ, _+_, _≤_}
 use lib.ListN.{length, take, drop}
 use lib.Seq.{take-at, drop-at}
-use types.Run.{OneOf, miss}
-use denote.Enum.Declared.{tagOf}
 use borrow.Author.Tests.{le-ltb}
+use Rattle.machine.specs.Rule.{World}
 use Rattle.machine.specs.declared.Answer.{Answer}
-use Rattle.script.specs.declared.Names.{Names}
-use Rattle.script.specs.declared.Names.the-variants as Names
-use Rattle.script.proofs.Names as NamesType
-use Rattle.script.specs.declared.Line.{Line}
-use Rattle.script.specs.declared.Line.the-variants as Line
-use Rattle.script.proofs.Line as LineType
+use Rattle.machine.specs.declared.Answer.the-variants.{Refused}
+use Rattle.script.specs.declared.Columns.{Columns}
 use Rattle.listing.specs.Text.{line, fitting, put}
 use Rattle.listing.proofs.Laws.{line-short}
+use Rattle.runner.specs.declared.lines.Ended.{Ended}
+use Rattle.runner.specs.declared.lines.Ended.the-variants.{Lists}
+use Rattle.runner.specs.Kept.{next}
+use Rattle.runner.specs.Ends.{onward, count, goes, needsMachine}
 
 -- the line stands in front, and the bytes after it keep what they held
-pub written : (n : ℕ) (a : Answer) (out out′ : List ℕ) (k : ℕ) → 32 ≤ length out → k ≡ length (fitting (line n a) out)
-    → out′ ≡ put (line n a) out → (take k out′ ≡ line n a) × (k ≤ 32) × (drop k out′ ≡ drop k out)
-written n a out out′ k room count bytes = (
+in-front : (n : ℕ) (a : Answer) (out out′ : List ℕ) (k : ℕ) → k ≡ length (line n a) → out′ ≡ line n a ++ drop (length (line n a)) out
+    → (take k out′ ≡ line n a) × (k ≤ 32) × (drop k out′ ≡ drop k out)
+in-front n a out out′ k long whole = (
   ap (take k) whole ∙ take-at (line n a) (drop (length (line n a)) out) k (sym long),
   subst (λ (x : ℕ). x ≤ 32) (sym long) (line-short n a),
   ap (drop k) whole ∙ drop-at (line n a) (drop (length (line n a)) out) k (sym long) ∙ ap (λ (x : ℕ). drop x out) (sym long),
 )
-  where
-    fits : fitting (line n a) out ≡ line n a
-    fits = unfold fitting in rw (le-ltb (length out) 32 room) refl
 
-    long : k ≡ length (line n a)
-    long = count ∙ ap length fits
+-- an output that has room for a line gets all of it
+module _ (n : ℕ) (a : Answer) (out out′ : List ℕ) (k : ℕ) (room : 32 ≤ length out) (count : k ≡ length (fitting (line n a) out))
+    (bytes : out′ ≡ put (line n a) out) where
+  fits : fitting (line n a) out ≡ line n a
+  fits = unfold fitting in rw (le-ltb (length out) 32 room) refl
 
-    whole : out′ ≡ line n a ++ drop (length (line n a)) out
-    whole = bytes ∙ (unfold put in rw fits refl)
+  pub put-long : k ≡ length (line n a)
+  put-long = count ∙ ap length fits
 
-pub no-order : (x : Names) → OneOf (1 ∷ []) (tagOf NamesType.the-type x) → x ≡ Names.Malformed
-no-order (Names.Order at) h = absurd (miss (1 ∷ []) 0 tt h)
-no-order Names.Malformed h = refl
+  pub put-whole : out′ ≡ line n a ++ drop (length (line n a)) out
+  put-whole = bytes ∙ (unfold put in rw fits refl)
 
-pub no-call : (x : Line) → OneOf (1 ∷ []) (tagOf LineType.the-type x) → x ≡ Line.Malformed
-no-call (Line.Spells call) h = absurd (miss (1 ∷ []) 0 tt h)
-no-call Line.Malformed h = refl
+  pub written : (take k out′ ≡ line n a) × (k ≤ 32) × (drop k out′ ≡ drop k out)
+  written = in-front n a out out′ k put-long put-whole
+
+-- what a refusal leaves, and whether lines are still read after it
+pub refusal-left : (at : Columns) (n k : ℕ) (going : Bool) (out out′ : List ℕ) (r : Ended)
+    → r ≡ Lists (record { going = going; columns = at; written = length (line n (Refused k)) })
+    → out′ ≡ line n (Refused k) ++ drop (length (line n (Refused k))) out
+    → ((w : World) (ls : List (List ℕ)) → onward r out′ at n w ls ≡ line n (Refused k) ++ next going at (n + 1) w ls)
+    × (needsMachine r ≡ false) × (count r ≤ 32) × (drop (count r) out′ ≡ drop (count r) out) × (goes r ≡ going)
+unfolding onward
+refusal-left at n k going out out′ r is whole =
+    let put = in-front n (Refused k) out out′ _ refl whole in
+    rw is (λ w ls. ap (λ (x : List ℕ). x ++ next going at (n + 1) w ls) (put .0), refl, put .1, put .2, refl)

@@ -1,4 +1,5 @@
 -- The definitions that the contracts cite. Assumes nothing.
 pub mod Listing
 pub mod Kept
+pub mod Ends
 pub mod Runs

@@ -3,15 +3,22 @@
 // `start`, then `feed` for each chunk, then `finish`: the outputs together, after the heading, are the listing of the chunks together
 // (specs/Listing.antt), however the script is cut. These functions ask for what `start` gives and `feed` keeps (`Fit`); a caller who
 // has a script and an output calls the C entry instead, which asks nothing.
+use crate::calls::set_up;
+use crate::lines::Ended;
 use crate::lines::end_line;
 use machine::Machine;
+use machine::inside::access;
+use machine::inside::commit;
+use machine::inside::jobs;
+use machine::inside::transaction;
+use script::Call;
 use script::Columns;
 ghost use mathlib.Core.Path.{_≡_};
 ghost use mathlib.Core.Bool.{_||_};
 ghost use lib.Dec.{eqb, ltb};
 ghost use mathlib.Core.List.{List, [], _++_};
-ghost use Prim.Native.Nat.{ℕ, _*_, _≤_};
-ghost use lib.ListN.{length, take, drop, replicate};
+ghost use Prim.Native.Nat.{ℕ, _+_, _*_, _≤_};
+ghost use lib.ListN.{length, take, drop, getD};
 ghost use Rattle.runner.specs.Kept.{Fit, rest};
 ghost use Rattle.runner.specs.Listing.{body};
 ghost use Rattle.script.specs.Pieces.{lines as linesOf};
@@ -61,7 +68,9 @@ pub fn start(committed: &[u32], pending: &[u32]) -> Reading
 }
 
 // The next bytes of the script. The output needs 32 bytes for each of them; what is written is what the chunk adds to the listing, and
-// the bytes after it keep what they held.
+// the bytes after it keep what they held. After a newline nothing is left to be listed, should the script end there.
+//
+// The calls are made in the loop itself: the record goes by value, and a function between the loop and a call would copy it in and out.
 pub fn feed(
     r: Reading,
     chunk: &[u8],
@@ -72,7 +81,7 @@ pub fn feed(
     requires { ⌜ Fit r (now committed) (now pending) × (32 * length (now chunk) ≤ length (now output)) ⌝ }
     ensures fit { λ o. ⌜ Fit (o .reading) (now (committed .exit)) (now (pending .exit)) ⌝ }
     ensures listed { λ o. ⌜ ((bytes : List ℕ) → rest r (now (committed .entry)) (now (pending .entry)) (now (chunk .entry) ++ bytes) ≡ take (o .written) (now (output .exit)) ++ rest (o .reading) (now (committed .exit)) (now (pending .exit)) bytes) ⌝ }
-    ensures after { λ o. ⌜ (o .written ≤ 32 * length (now (chunk .entry))) × (drop (o .written) (now (output .exit)) ≡ drop (o .written) (now (output .entry))) ⌝ }
+    ensures after { λ o. ⌜ (o .written ≤ 32 * length (now (chunk .entry))) × (drop (o .written) (now (output .exit)) ≡ drop (o .written) (now (output .entry))) × ((j : ℕ) → j + 1 ≡ length (now (chunk .entry)) → getD (now (chunk .entry)) j 0 ≡ 10 → rest (o .reading) (now (committed .exit)) (now (pending .exit)) [] ≡ []) ⌝ }
 {
     let mut going = r.going;
     let mut columns = r.columns;
@@ -87,21 +96,57 @@ pub fn feed(
         i += 1;
         if b == b'\n' {
             if going {
-                let done = end_line(
+                let ended = end_line(
                     columns,
                     number,
                     &line[..length],
-                    machine,
-                    committed,
-                    pending,
+                    machine.cores,
                     &mut output[written..],
                 );
-                going = done.going;
-                columns = done.columns;
-                machine = done.machine;
+                match ended {
+                    Ended::Calls(call) => {
+                        let d = machine.objects as usize;
+                        let n = machine.cores as usize * d;
+                        let done = match call {
+                            Call::Setup(cores, cards) => set_up(cores, cards, committed, pending),
+                            Call::Release(core, job, deadline) => {
+                                jobs::release(machine, core, job, deadline)
+                            }
+                            Call::Begin(core) => transaction::begin(machine, core),
+                            Call::Read(core, card) => {
+                                access::read(machine, core, card, &committed[..d], &pending[..n])
+                            }
+                            Call::Write(core, card, value) => access::write(
+                                machine,
+                                core,
+                                card,
+                                value,
+                                &committed[..d],
+                                &mut pending[..n],
+                            ),
+                            Call::Commit(core) => {
+                                commit::commit(
+                                    machine,
+                                    core,
+                                    &mut committed[..d],
+                                    &mut pending[..n],
+                                )
+                            }
+                            Call::GiveUp(core) => transaction::give_up(machine, core),
+                            Call::Finish(core) => jobs::finish(machine, core),
+                        };
+                        machine = done.machine;
+                        let answer = done.answer;
+                        written += listing::put_line(number, answer, &mut output[written..]);
+                    }
+                    Ended::Lists(listed) => {
+                        going = listed.going;
+                        columns = listed.columns;
+                        written += listed.written;
+                    }
+                }
                 number += 1;
                 length = 0;
-                written += done.written;
             }
         } else if length < 65 {
             line[length] = b;
@@ -141,17 +186,7 @@ pub fn finish(r: Reading, committed: &mut [u32], pending: &mut [u32], output: &m
     let length = r.length;
     if r.going {
         if line_left(r.number, length) {
-            let columns = r.columns;
-            let line = r.line;
-            end_line(
-                columns,
-                r.number,
-                &line[..length],
-                r.machine,
-                committed,
-                pending,
-                output,
-            ).written
+            feed(r, b"\n", committed, pending, output).written
         } else {
             0
         }

@@ -1,8 +1,9 @@
--- `runner::finish` meets its contract: a line is left, or none. Assumes nothing.
-use mathlib.Core.Path.{_≡_, refl, sym, subst, _∙_}
-use Prim.Native.Nat.{ℕ, _≤_}
+-- `runner::finish` meets its contract: a line is left, which a newline ends, or none. Assumes nothing.
+use mathlib.Core.Path.{refl, sym, ap, _∙_}
+use mathlib.Core.List.{List, [], _++_, append-nil}
+use Prim.Native.Nat.{ℕ}
 use native.Mathlib.Omega.{arith}
-use lib.Seq.{length-take-le}
+use lib.ListN.{take}
 use borrow.Author.Needs.{needs}
 use Rattle.runner.proofs.Finishing.{over, none-left, line-left}
 use Rattle.runner.proofs.finish.Statement.{statement}
@@ -11,16 +12,13 @@ use Rattle.runner.proofs.finish.Tie as tie
 line-left-requires : tie.Need-line-left-requires
 line-left-requires c κs = search needs
 
-array-share-prefix-line : tie.Need-array-share-prefix-line
-array-share-prefix-line c =
-    let start = c .before .before .before .before .before .before .before .before in
-    subst (λ (n : ℕ). start .args .r .length ≤ n) (sym (start .pre .0 .line-long)) (start .pre .0 .few-bytes)
+slice-aggregate-feed : tie.Need-slice-aggregate-feed
+slice-aggregate-feed c = search needs
 
-slice-aggregate-end-line : tie.Need-slice-aggregate-end-line
-slice-aggregate-end-line c = sym (length-take-le _ _ (array-share-prefix-line (c .before)))
-
-end-line-requires : tie.Need-end-line-requires
-end-line-requires c κs = search needs
+feed-requires : tie.Need-feed-requires
+feed-requires c κs =
+    let start = c .before .before .before .before .before .before .before .before .before .before in
+    (start .pre .0, start .pre .1)
 
 same-length : tie.Need-same-length
 same-length c = search needs
@@ -34,12 +32,14 @@ same-length-3 c = search needs
 returns : tie.Need-returns
 returns c =
     let done = c .before .before .before .before .before .before in
-    let then2 = done .before .before .before .before .before .before .before in
+    let then2 = done .before .before .before .before .before in
     let start = then2 .before .before .before .before .before .before in
-    let kept = done .end-line .ensures .1 in (
-      line-left _ _ _ (start .pre .0) (then2 .before .before .if1 .taken) (sym (then2 .before .line-left .ensures) ∙ then2 .if2 .taken) _
-          (done .end-line .result .going) (done .end-line .result .columns) _ (done .end-line .ensures .0),
-      (kept .1, kept .2),
+    let fed = done .feed .ensures in
+    let none = fed .1 .1 .2 0 refl refl in
+    let text = take (done .feed .result .written) (done .feed .last .1 .1 .1 .1 .0) in (
+      sym (append-nil text) ∙ ap (λ (x : List ℕ). text ++ x) (sym none) ∙ sym (fed .1 .0 [])
+          ∙ line-left _ _ _ (start .pre .0) (then2 .before .before .if1 .taken) (sym (then2 .before .line-left .ensures) ∙ then2 .if2 .taken),
+      (fed .1 .1 .0, fed .1 .1 .1),
     )
 
 returns-2 : tie.Need-returns-2
@@ -57,9 +57,8 @@ finish-spec =
     tie.close
     (tie.spec
     line-left-requires
-    array-share-prefix-line
-    slice-aggregate-end-line
-    end-line-requires
+    slice-aggregate-feed
+    feed-requires
     same-length
     same-length-2
     same-length-3
