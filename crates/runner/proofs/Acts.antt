@@ -18,7 +18,8 @@ use Rattle.machine.proofs.Case.{case-of}
 use Rattle.machine.specs.Inside.{Good}
 use Rattle.machine.proofs.Sound.Keeps.{keeps-good}
 use Rattle.listing.specs.Text.{said, word, value}
-use Rattle.runner.specs.Kept.{held, Held}
+use Rattle.runner.specs.Kept.{held, over, Held}
+use Rattle.runner.proofs.Over.{over-front}
 
 -- two results that the listing shows alike, with the same world
 abbrev Alike : Result → Result → Type 0
@@ -64,20 +65,22 @@ front-held m cs ps more more′ g =
     ap (λ (x : List ℕ). lent m x (take (m .cores * m .objects) (ps ++ more′))) (take-at cs more (m .objects) (g .committed-long))
     ∙ ap (λ (x : List ℕ). lent m cs x) (take-at ps more′ (m .cores * m .objects) (g .pending-long))
 
--- what a call promises of its answer, its record and the whole tables after it
-abbrev pub Done : World → Result → Outcome → List ℕ → List ℕ → Type 0
-Done w expected r cs ps =
-    (said (r .answer) ≡ said (expected .answer)) × ((held (r .machine) cs ps ≡ expected .world) × Held (r .machine) cs ps)
+-- what a call promises of its answer, its record and the whole tables, cs₀ and ps₀ before it and cs and ps after it
+abbrev pub Done : List ℕ → List ℕ → Result → Outcome → List ℕ → List ℕ → Type 0
+Done cs₀ ps₀ expected r cs ps =
+    (said (r .answer) ≡ said (expected .answer))
+    × ((held (r .machine) cs ps ≡ expected .world)
+    × (Held (r .machine) cs ps × ((cs ≡ over (expected .world .committed) cs₀) × (ps ≡ over (expected .world .pending) ps₀))))
 
-pub done-same : (w : World) (x : Result) {r r′ : Outcome} {cs cs′ ps ps′ : List ℕ} → cs ≡ cs′ → ps ≡ ps′ → r ≡ r′ → Done w x r′ cs′ ps′
-    → Done w x r cs ps
-done-same w x a b c d = rw (a, b, c) d
+pub done-same : (cs₀ ps₀ : List ℕ) (x : Result) {r r′ : Outcome} {cs cs′ ps ps′ : List ℕ} → cs ≡ cs′ → ps ≡ ps′ → r ≡ r′ → Done cs₀ ps₀ x r′ cs′ ps′
+    → Done cs₀ ps₀ x r cs ps
+done-same cs₀ ps₀ x a b c d = rw (a, b, c) d
 
 module _ (m : Machine) (cs ps : List ℕ) (g : Good (held m cs ps)) (cl : length cs ≡ 64) (pl : length ps ≡ 1024) (call : Call) (r : Outcome) (e : ℕ) where
   -- the call was lent the first words, and left them as cs′ and ps′
   pub acted : (cs′ ps′ : List ℕ) → length cs′ ≡ length (take (m .objects) cs) → length ps′ ≡ length (take (m .cores * m .objects) ps)
       → Follows (held m cs ps) call (r .answer) (lent (r .machine) cs′ ps′)
-      → Done (held m cs ps) (rule e (held m cs ps) call) r (cs′ ++ drop (m .objects) cs) (ps′ ++ drop (m .cores * m .objects) ps)
+      → Done cs ps (rule e (held m cs ps) call) r (cs′ ++ drop (m .objects) cs) (ps′ ++ drop (m .cores * m .objects) ps)
   acted cs′ ps′ cl′ pl′ f =
       let alike = rule-alike (named (r .answer)) e (held m cs ps) call in
       let g′ = keeps-good (case-of f) g in
@@ -85,10 +88,16 @@ module _ (m : Machine) (cs ps : List ℕ) (g : Good (held m cs ps)) (cl : length
         ap said (f .answer-is) ∙ alike .0,
         (
           front ∙ f .world-is ∙ alike .1,
-          record {
-            committed-long = length-front cs cs′ (m .objects) cl′ ∙ cl;
-            pending-long = length-front ps ps′ (m .cores * m .objects) pl′ ∙ pl;
-            blank-or-good = inr (subst Good (sym front) g′);
-          },
+          (
+            record {
+              committed-long = length-front cs cs′ (m .objects) cl′ ∙ cl;
+              pending-long = length-front ps ps′ (m .cores * m .objects) pl′ ∙ pl;
+              blank-or-good = inr (subst Good (sym front) g′);
+            },
+            (
+              over-front (m .objects) cs cs′ _ cl′ (ap (λ (x : World). x .committed) (f .world-is ∙ alike .1)),
+              over-front (m .cores * m .objects) ps ps′ _ pl′ (ap (λ (x : World). x .pending) (f .world-is ∙ alike .1)),
+            ),
+          ),
         ),
       )

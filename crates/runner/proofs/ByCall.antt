@@ -22,17 +22,17 @@ use Rattle.script.specs.declared.Call.{Call}
 use Rattle.script.specs.declared.Call.the-variants as Call
 use Rattle.script.proofs.Call as CallType
 use Rattle.listing.specs.Text.{said}
-use Rattle.runner.specs.Kept.{held, Held}
+use Rattle.runner.specs.Kept.{held, over, Held}
 use Rattle.runner.specs.Listing.{Request, Asks, request, met, called, setUp, nothing}
 use Rattle.runner.proofs.Setups as Setups
 use Rattle.runner.proofs.Acts.{Done, acted}
 
 -- a script's call is the rule's
 abbrev ByCall : Machine → List ℕ → List ℕ → Call → Outcome → List ℕ → List ℕ → Type 0
-ByCall m cs ps call r cs′ ps′ = Done (held m cs ps) (called (held m cs ps) call) r cs′ ps′
+ByCall m cs ps call r cs′ ps′ = Done cs ps (called (held m cs ps) call) r cs′ ps′
 
 module _ (m : Machine) (cs ps : List ℕ) (call : Call) (r : Outcome) (cs′ ps′ : List ℕ) where
-  pub setup-done : (cores cards : ℕ) → call ≡ Call.Setup cores cards → Setups.Done cores cards r cs′ ps′ → ByCall m cs ps call r cs′ ps′
+  pub setup-done : (cores cards : ℕ) → call ≡ Call.Setup cores cards → Setups.Done cs ps cores cards r cs′ ps′ → ByCall m cs ps call r cs′ ps′
   unfolding met request
   setup-done cores cards e d = subst (λ (x : Call). ByCall m cs ps x r cs′ ps′) (sym e) (ap said (d .0), d .1)
 
@@ -48,7 +48,7 @@ module _ (m : Machine) (cs ps : List ℕ) (g : Good (held m cs ps)) (cl : length
       → Follows (held m cs ps) asked (r .answer) (lent (r .machine) cs′ ps′) → ByCall m cs ps call r (cs′ ++ drop dl cs) (ps′ ++ drop nl ps)
   unfolding met
   lent-done asked e cs′ ps′ k l f =
-      subst (λ (x : Request). Done (held m cs ps) (met (held m cs ps) x) r (cs′ ++ drop dl cs) (ps′ ++ drop nl ps)) (sym e)
+      subst (λ (x : Request). Done cs ps (met (held m cs ps) x) r (cs′ ++ drop dl cs) (ps′ ++ drop nl ps)) (sym e)
       (acted m cs ps g cl pl asked r (firstAhead m (coreOf asked)) cs′ ps′ k l f)
 
   -- the call is lent no table, or leaves both as they are
@@ -113,7 +113,7 @@ unfolding Sound.sound Sound.inRange
 blank-unsound = refl
 
 -- what a blank record answers to any call but setup, the first of the enum
-blank-called : (call : Call) → OneOf (1 ∷ 2 ∷ 3 ∷ 4 ∷ 5 ∷ 6 ∷ 7 ∷ []) (tagOf CallType.the-type call)
+pub blank-called : (call : Call) → OneOf (1 ∷ 2 ∷ 3 ∷ 4 ∷ 5 ∷ 6 ∷ 7 ∷ []) (tagOf CallType.the-type call)
     → called nothing call ≡ record { answer = Refused 2; world = nothing }
 unfolding met request Rule.rule Rule.release Rule.begin Rule.read Rule.write Rule.commit Rule.giveUp Rule.finish Rule.accessRefusal Rule.commitRefusal
 blank-called (Call.Setup n d) h = absurd (miss (1 ∷ 2 ∷ 3 ∷ 4 ∷ 5 ∷ 6 ∷ 7 ∷ []) 0 tt h)
@@ -124,12 +124,3 @@ blank-called (Call.Write c d v) h = unsound-unless-lent (Sound.sound blank) blan
 blank-called (Call.Commit c) h = unsound-unless-lent (Sound.sound blank) blank-unsound nothing _ _
 blank-called (Call.GiveUp c) h = ap (Rule.unlent nothing) (unsound-unless (Sound.sound blank) blank-unsound blank _ _)
 blank-called (Call.Finish c) h = ap (Rule.unlent nothing) (unsound-unless (Sound.sound blank) blank-unsound blank _ _)
-
-pub first-refused : (m : Machine) (cs ps : List ℕ) (call : Call) → m ≡ blank → length cs ≡ 64 → length ps ≡ 1024
-    → OneOf (1 ∷ 2 ∷ 3 ∷ 4 ∷ 5 ∷ 6 ∷ 7 ∷ []) (tagOf CallType.the-type call)
-    → ByCall m cs ps call (record { answer = Refused 2; machine = m }) cs ps
-first-refused m cs ps call e cl pl h =
-    subst (λ (x : Machine). ByCall x cs ps call (record { answer = Refused 2; machine = x }) cs ps) (sym e) (
-      ap (λ (x : Result). said (x .answer)) (sym (blank-called call h)),
-      (ap (λ (x : Result). x .world) (sym (blank-called call h)), record { committed-long = cl; pending-long = pl; blank-or-good = inl refl }),
-    )

@@ -21,17 +21,14 @@ use Rattle.runner.specs.declared.lines.Listed.{Listed}
 use Rattle.runner.specs.declared.lines.Ended.{Ended}
 use Rattle.runner.specs.declared.lines.Ended.the-variants.{Calls, Lists}
 use Rattle.runner.specs.Listing.{nothing, called, mostLines}
-use Rattle.runner.specs.Kept.{held, next, begun, rest, Held, Fit}
+use Rattle.runner.specs.Kept.{held, next, begun, rest, Held, Fit, State, state, lineEnd, pastLine, after, fed}
 use Rattle.runner.proofs.LineLaws.{byte-lost, line-said}
-use Rattle.runner.specs.Ends.{onward, count, goes, needsMachine}
+use Rattle.runner.specs.Ends.{onward, leaves, count, goes, needsMachine}
 use Rattle.runner.proofs.Acts.{Done}
 use Rattle.runner.proofs.Sizes.{nothing-if-none}
 use Rattle.runner.proofs.Written.{written as put-written}
-use Rattle.runner.proofs.Finishing.{none-begun}
-
-abbrev pub reading : Bool → Columns → ℕ → List ℕ → ℕ → Machine → Reading
-reading going columns number line length machine =
-    record { going = going; columns = columns; number = number; line = line; length = length; machine = machine }
+use Rattle.runner.proofs.Over.{over-own}
+use Rattle.runner.proofs.Stepping.{reading, past-made, after-skipped, after-ended, after-lost, after-joined}
 
 -- a byte that is no newline, at the end of bytes that are none
 free-joined : (p : List ℕ) (b : ℕ) → free 10 p ≡ true → (b ≡ 10 → ⊥) → free 10 (p ++ b ∷ []) ≡ true
@@ -47,7 +44,7 @@ one-more : (n : ℕ) → suc n ≡ n + 1
 one-more n = omega arith
 
 -- after i bytes of the chunk: what is written and what is still to be listed make up what was to be listed at first, and the output's
--- other bytes keep what they held; where the last of these bytes was a newline, nothing is left to be listed should the script end
+-- other bytes keep what they held; what the whole chunk leaves is what its other bytes will leave of what is kept by then
 pub record Feeding (r₀ : Reading) (cs₀ ps₀ out₀ chunk : List ℕ) (r : Reading) (cs ps out : List ℕ) (written i : ℕ) : Type 0 where
   pub fit : Fit r cs ps
   pub within : i ≤ length chunk
@@ -55,11 +52,11 @@ pub record Feeding (r₀ : Reading) (cs₀ ps₀ out₀ chunk : List ℕ) (r : R
   pub out-long : length out ≡ length out₀
   pub listed : (bytes : List ℕ) → rest r₀ cs₀ ps₀ (chunk ++ bytes) ≡ take written out ++ rest r cs ps (drop i chunk ++ bytes)
   pub after : drop written out ≡ drop written out₀
-  pub ended : (j : ℕ) → j + 1 ≡ i → getD chunk j 0 ≡ 10 → rest r cs ps [] ≡ []
+  pub kept : fed (state r₀ cs₀ ps₀) chunk ≡ fed (state r cs ps) (drop i chunk)
 
 pub feeding-starts : (r : Reading) (cs ps out chunk : List ℕ) → Fit r cs ps → Feeding r cs ps out chunk r cs ps out 0 0
 feeding-starts r cs ps out chunk f =
-    record { fit = f; within = omega arith; room = omega arith; out-long = refl; listed = λ bytes. refl; after = refl; ended = λ j e. absurd (omega (arith, e)) }
+    record { fit = f; within = omega arith; room = omega arith; out-long = refl; listed = λ bytes. refl; after = refl; kept = refl }
 
 module _ (r₀ : Reading) (cs₀ ps₀ out₀ chunk : List ℕ) (r : Reading) (cs ps out : List ℕ) (written i : ℕ)
     (f : Feeding r₀ cs₀ ps₀ out₀ chunk r cs ps out written i) (h : i < length chunk) where
@@ -70,11 +67,18 @@ module _ (r₀ : Reading) (cs₀ ps₀ out₀ chunk : List ℕ) (r : Reading) (c
   next-byte : (bytes : List ℕ) → drop i chunk ++ bytes ≡ b ∷ drop (i + 1) chunk ++ bytes
   next-byte bytes = ap (λ (x : List ℕ). x ++ bytes) (drop-cons chunk i 0 h ∙ ap (λ (n : ℕ). b ∷ drop n chunk) (one-more i))
 
+  -- the byte leaves this
+  kept-on : (s : State) → after (state r cs ps) b ≡ s → fed (state r₀ cs₀ ps₀) chunk ≡ fed s (drop (i + 1) chunk)
+  unfolding fed
+  kept-on s e =
+      f .kept ∙ ap (fed (state r cs ps)) (drop-cons chunk i 0 h ∙ ap (λ (n : ℕ). b ∷ drop n chunk) (one-more i))
+      ∙ ap (λ (x : State). fed x (drop (i + 1) chunk)) e
+
   -- the output stays, and a reading that has the same bytes to come
   stays : (r′ : Reading) → Fit r′ cs ps
-      → ((bytes : List ℕ) → rest r cs ps (b ∷ bytes) ≡ rest r′ cs ps bytes) → (b ≡ 10 → rest r′ cs ps [] ≡ [])
+      → ((bytes : List ℕ) → rest r cs ps (b ∷ bytes) ≡ rest r′ cs ps bytes) → after (state r cs ps) b ≡ state r′ cs ps
       → Feeding r₀ cs₀ ps₀ out₀ chunk r′ cs ps out written (i + 1)
-  stays r′ fit′ e over =
+  stays r′ fit′ e step =
       record {
         fit = fit′;
         within = omega (arith, h);
@@ -84,12 +88,12 @@ module _ (r₀ : Reading) (cs₀ ps₀ out₀ chunk : List ℕ) (r : Reading) (c
             f .listed bytes ∙ ap (λ (x : List ℕ). take written out ++ rest r cs ps x) (next-byte bytes)
             ∙ ap (λ (x : List ℕ). take written out ++ x) (e (drop (i + 1) chunk ++ bytes));
         after = f .after;
-        ended = λ j at newline. over (subst (λ (k : ℕ). getD chunk k 0 ≡ 10) (omega (arith, at)) newline);
+        kept = kept-on (state r′ cs ps) step;
       }
 
   -- lines are read no more
-  pub feeding-skips : r .going ≡ false → Feeding r₀ cs₀ ps₀ out₀ chunk r cs ps out written (i + 1)
-  feeding-skips over = stays r (f .fit) (λ bytes. unfold rest next in rw over refl) (λ e. unfold rest next in rw over refl)
+  pub feeding-skips : b ≡ 10 → r .going ≡ false → Feeding r₀ cs₀ ps₀ out₀ chunk r cs ps out written (i + 1)
+  feeding-skips newline over = stays r (f .fit) (λ bytes. unfold rest next in rw over refl) (after-skipped r cs ps b newline over)
 
   module _ (ne : b ≡ 10 → ⊥) where
     -- past 64 bytes, one byte more is not kept
@@ -102,7 +106,7 @@ module _ (r₀ : Reading) (cs₀ ps₀ out₀ chunk : List ℕ) (r : Reading) (c
         (subst (λ (n : ℕ). 64 < n)
         (sym (length-take-le (r .length) (r .line) (subst (λ (n : ℕ). r .length ≤ n) (sym (f .fit .line-long)) (f .fit .few-bytes))))
         long) ne)
-        (λ e. absurd (ne e))
+        (after-lost r cs ps b ne long)
 
     -- a byte joins the unfinished line
     pub feeding-keeps : r .length < 65
@@ -123,7 +127,7 @@ module _ (r₀ : Reading) (cs₀ ps₀ out₀ chunk : List ℕ) (r : Reading) (c
         unfold rest in
         ap (λ (x : List ℕ). next (r .going) (r .columns) (r .number) (held (r .machine) cs ps) (lines x))
         (sym (append-assoc (begun r) (b ∷ []) bytes) ∙ ap (λ (x : List ℕ). x ++ bytes) (sym joined)))
-        (λ e. absurd (ne e))
+        (after-joined r cs ps b ne short)
       where
         joined : take (r .length + 1) (set (r .line) (r .length) b) ≡ begun r ++ b ∷ []
         joined =
@@ -139,9 +143,9 @@ module _ (r₀ : Reading) (cs₀ ps₀ out₀ chunk : List ℕ) (r : Reading) (c
         → next true (r .columns) (r .number) (held (r .machine) cs ps) (begun r ∷ ls)
         ≡ take k part ++ next going′ at′ (r .number + 1) (held m′ cs′ ps′) ls)
         → Held m′ cs′ ps′ → k ≤ 32 → drop k part ≡ drop k (drop written out) → (going′ ≡ true → r .number ≤ mostLines)
-        → length part ≡ length (drop written out) → written ≤ length out
+        → length part ≡ length (drop written out) → written ≤ length out → after (state r cs ps) b ≡ state r′ cs′ ps′
         → Feeding r₀ cs₀ ps₀ out₀ chunk r′ cs′ ps′ (take written out ++ part) (written + k) (i + 1)
-    feeding-ends ends holds few rest-kept lines-few long within =
+    feeding-ends ends holds few rest-kept lines-few long within step =
         record {
           fit = record {
             holds = holds;
@@ -163,7 +167,7 @@ module _ (r₀ : Reading) (cs₀ ps₀ out₀ chunk : List ℕ) (r : Reading) (c
               ∙ ap (λ (x : List ℕ). x ++ rest r′ cs′ ps′ (drop (i + 1) chunk ++ bytes)) (sym taken);
           after = dropped ∙ rest-kept ∙ drop-drop k written out ∙ sym (drop-drop k written out) ∙ ap (drop k) (f .after)
               ∙ drop-drop k written out₀;
-          ended = λ j at last. none-begun r′ cs′ ps′ refl (omega (arith, f .fit .some-line));
+          kept = kept-on (state r′ cs′ ps′) step;
         }
       where
         front : length (take written out) ≡ written
@@ -202,8 +206,9 @@ abbrev pub Left : Reading → List ℕ → ℕ → Ended → List ℕ → Type 0
 Left r out written e part =
     ((w : World) → (r .machine .cores ≡ 0 → w ≡ nothing) → (ls : List (List ℕ))
     → next true (r .columns) (r .number) w (begun r ∷ ls) ≡ onward e part (r .columns) (r .number) w ls)
-    × ((needsMachine e ≡ true → r .machine .cores ≡ 0 → ⊥) × (count e ≤ 32)
+    × (((needsMachine e ≡ true → r .machine .cores ≡ 0 → ⊥) × (count e ≤ 32)
     × (drop (count e) part ≡ drop (count e) (take (length out - written) (drop written out))) × (goes e ≡ true → r .number ≤ mostLines))
+    × ((w : World) → (r .machine .cores ≡ 0 → w ≡ nothing) → lineEnd (r .columns) (r .number) w (begun r) ≡ leaves e (r .columns) w))
 
 module _ (r₀ : Reading) (cs₀ ps₀ out₀ chunk : List ℕ) (r : Reading) (cs ps out : List ℕ) (written i : ℕ)
     (f : Feeding r₀ cs₀ ps₀ out₀ chunk r cs ps out written i) (h : i < length chunk) (newline : getD chunk i 0 ≡ 10) (going : r .going ≡ true)
@@ -219,20 +224,24 @@ module _ (r₀ : Reading) (cs₀ ps₀ out₀ chunk : List ℕ) (r : Reading) (c
       → Held m′ cs′ ps′ → (going′ ≡ true → r .number ≤ mostLines)
       → k ≤ 32 → drop k part ≡ drop k (take (length out - written) (drop written out))
       → length part ≡ length (take (length out - written) (drop written out))
+      → after (state r cs ps) (getD chunk i 0) ≡ state (reading going′ at′ (r .number + 1) (r .line) 0 m′) cs′ ps′
       → Feeding r₀ cs₀ ps₀ out₀ chunk (reading going′ at′ (r .number + 1) (r .line) 0 m′) cs′ ps′ (lent-back part) (written + k) (i + 1)
-  line-ends going′ at′ m′ k cs′ ps′ part ends holds lines-few few kept long =
+  line-ends going′ at′ m′ k cs′ ps′ part ends holds lines-few few kept long step =
       rw (part-last out written, append-nil part)
       (feeding-ends r₀ cs₀ ps₀ out₀ chunk r cs ps out written i f h newline going going′ at′ m′ k cs′ ps′ part ends holds few
-      (kept ∙ ap (drop k) (part-whole out written)) lines-few (long ∙ ap length (part-whole out written)) within)
+      (kept ∙ ap (drop k) (part-whole out written)) lines-few (long ∙ ap length (part-whole out written)) within step)
 
   pub line-lists : (l : Listed) (part : List ℕ) → Left r out written (Lists l) part → length part ≡ length (take (length out - written) (drop written out))
       → Feeding r₀ cs₀ ps₀ out₀ chunk (reading (l .going) (l .columns) (r .number + 1) (r .line) 0 (r .machine)) cs ps (lent-back part)
       (written + l .written) (i + 1)
-  unfolding onward
+  unfolding onward leaves
   line-lists l part left long =
-      line-ends (l .going) (l .columns) (r .machine) (l .written) cs ps part
-      (left .0 (held (r .machine) cs ps) (nothing-if-none (r .machine) cs ps (f .fit .holds))) (f .fit .holds) (left .1 .3) (left .1 .1)
-      (left .1 .2) long
+      let blank = nothing-if-none (r .machine) cs ps (f .fit .holds) in
+      line-ends (l .going) (l .columns) (r .machine) (l .written) cs ps part (left .0 (held (r .machine) cs ps) blank) (f .fit .holds)
+      (left .1 .0 .3) (left .1 .0 .1) (left .1 .0 .2) long
+      (after-ended r cs ps (getD chunk i 0) newline going ∙ ap (pastLine (state r cs ps)) (left .1 .1 (held (r .machine) cs ps) blank)
+      ∙ past-made r cs ps (l .columns) (held (r .machine) cs ps) refl refl (over-own (r .machine .objects) cs)
+      (over-own (r .machine .cores * r .machine .objects) ps))
 
 -- a call's output is as it was
 pub call-output : (out part : List ℕ) (written : ℕ) → drop 0 part ≡ drop 0 (take (length out - written) (drop written out))
@@ -246,23 +255,29 @@ module _ (r₀ : Reading) (cs₀ ps₀ out₀ chunk : List ℕ) (r : Reading) (c
     (room : written + 32 ≤ length out) where
   -- a call that the line asks for is made, and its answer is put where the output is as it was
   pub line-calls : (call : Call) (part out₁ : List ℕ) → Left r out written (Calls call) part
-      → out₁ ≡ out → (done : Outcome) (cs′ ps′ : List ℕ) → Done (held (r .machine) cs ps) (called (held (r .machine) cs ps) call) done cs′ ps′
+      → out₁ ≡ out → (done : Outcome) (cs′ ps′ : List ℕ) → Done cs ps (called (held (r .machine) cs ps) call) done cs′ ps′
       → (k : ℕ) (put-part : List ℕ)
       → k ≡ length (fitting (line (r .number) (done .answer)) (take (length out₁ - written) (drop written out₁)))
       → put-part ≡ put (line (r .number) (done .answer)) (take (length out₁ - written) (drop written out₁))
       → length put-part ≡ length (take (length out₁ - written) (drop written out₁))
       → Feeding r₀ cs₀ ps₀ out₀ chunk (reading (r .going) (r .columns) (r .number + 1) (r .line) 0 (done .machine)) cs′ ps′
       (take written out₁ ++ (put-part ++ drop (length out₁ - written) (drop written out₁))) (written + k) (i + 1)
-  unfolding onward
+  unfolding onward leaves
   line-calls call part out₁ left same done cs′ ps′ ran k put-part count bytes long =
       line-ends r₀ cs₀ ps₀ out₀ chunk r cs ps out₁ written i
       (subst (λ (o : List ℕ). Feeding r₀ cs₀ ps₀ out₀ chunk r cs ps o written i) (sym same) f) h newline going (omega (arith, room₁))
       (r .going) (r .columns) (done .machine) k cs′ ps′ put-part
       (λ ls.
-      left .0 (held (r .machine) cs ps) (nothing-if-none (r .machine) cs ps (f .fit .holds)) ls
+      left .0 (held (r .machine) cs ps) blank ls
       ∙ rw (going, ran .1 .0, put-line .0, line-said (r .number) (done .answer) _ (ran .0)) refl)
-      (ran .1 .1) (λ e. left .1 .3 refl) (put-line .1) (put-line .2) long
+      (ran .1 .1 .0) (λ e. left .1 .0 .3 refl) (put-line .1) (put-line .2) long
+      (after-ended r cs ps (getD chunk i 0) newline going ∙ ap (pastLine (state r cs ps)) (left .1 .1 (held (r .machine) cs ps) blank)
+      ∙ past-made r cs ps (r .columns) (called (held (r .machine) cs ps) call .world) (sym going)
+      (sym (ap (λ (w : World). w .machine) (ran .1 .0))) (sym (ran .1 .1 .1 .0)) (sym (ran .1 .1 .1 .1)))
     where
+      blank : r .machine .cores ≡ 0 → held (r .machine) cs ps ≡ nothing
+      blank = nothing-if-none (r .machine) cs ps (f .fit .holds)
+
       room₁ : written + 32 ≤ length out₁
       room₁ = subst (λ (o : List ℕ). written + 32 ≤ length o) (sym same) room
 
@@ -284,3 +299,9 @@ pub feeding-done : {r₀ : Reading} {cs₀ ps₀ out₀ chunk : List ℕ} {r : R
 feeding-done {chunk = chunk} {r = r} {cs = cs} {ps = ps} {out = out} {written = written} {i = i} f over bytes =
     f .listed bytes
     ∙ ap (λ (x : List ℕ). take written out ++ rest r cs ps (x ++ bytes)) (drop-of-length-le chunk {i = i} over)
+
+pub feeding-kept : {r₀ : Reading} {cs₀ ps₀ out₀ chunk : List ℕ} {r : Reading} {cs ps out : List ℕ} {written i : ℕ}
+    → Feeding r₀ cs₀ ps₀ out₀ chunk r cs ps out written i → length chunk ≤ i → state r cs ps ≡ fed (state r₀ cs₀ ps₀) chunk
+unfolding fed
+feeding-kept {chunk = chunk} {r = r} {cs = cs} {ps = ps} {i = i} f over =
+    sym (f .kept ∙ ap (fed (state r cs ps)) (drop-of-length-le chunk {i = i} over))

@@ -13,7 +13,8 @@ use Rattle.script.specs.Pieces.{lines}
 use Rattle.script.proofs.Laws.{lines-empty, lines-newline}
 use Rattle.runner.specs.declared.Reading.{Reading}
 use Rattle.runner.specs.Listing.{body}
-use Rattle.runner.specs.Kept.{held, next, begun, rest, Fit}
+use Rattle.runner.specs.Kept.{held, next, begun, rest, Fit, State, state, after}
+use Rattle.runner.proofs.Stepping.{after-ended}
 use Rattle.runner.proofs.LineLaws.{last-line, no-line, no-names}
 
 -- no byte of a line, after the line of names
@@ -23,6 +24,14 @@ none-begun r cs ps none later =
     ap (λ (n : ℕ). next (r .going) (r .columns) (r .number) (held (r .machine) cs ps) (lines (take n (r .line) ++ []))) none
     ∙ ap (next (r .going) (r .columns) (r .number) (held (r .machine) cs ps)) lines-empty
     ∙ no-line (r .going) (r .columns) (r .number) (held (r .machine) cs ps) later
+
+-- nor after a newline
+pub newline-none : (r : Reading) (cs ps : List ℕ) → 0 < r .number → r .going ≡ true → (r′ : Reading) (cs′ ps′ : List ℕ)
+    → state r′ cs′ ps′ ≡ after (state r cs ps) 10 → rest r′ cs′ ps′ [] ≡ []
+newline-none r cs ps some going r′ cs′ ps′ e =
+    let past = e ∙ after-ended r cs ps 10 refl going in
+    let number = ap (λ (s : State). s .reading .number) past in
+    none-begun r′ cs′ ps′ (ap (λ (s : State). s .reading .length) past) (omega (arith, some, number))
 
 module _ (r : Reading) (cs ps : List ℕ) (f : Fit r cs ps) where
   abbrev w : World

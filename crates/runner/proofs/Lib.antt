@@ -1,4 +1,5 @@
 -- The facts that the functions' proofs rest on. Assumes nothing.
+mod Over
 mod Setups
 mod Acts
 mod Sizes

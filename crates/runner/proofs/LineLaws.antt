@@ -5,11 +5,10 @@ use mathlib.Core.List.{List, [], _∷_, _++_, append-nil}
 use Prim.Native.Nat.{ℕ, _+_, _≤_, _<_}
 use native.Mathlib.Omega.{arith}
 use lib.Dec.{eqb}
-use lib.ListN.{length, length-append, replicate, length-replicate}
+use lib.ListN.{length, length-append}
 use types.Run.{OneOf, miss}
 use denote.Enum.Declared.{tagOf}
 use borrow.Author.Tests.{ne-eqb, lt-ltb, le-ltb}
-use Rattle.machine.specs.Record.{blank}
 use Rattle.machine.specs.Rule.{World}
 use Rattle.machine.specs.declared.Answer.{Answer}
 use Rattle.machine.specs.declared.Answer.the-variants.{Refused}
@@ -27,9 +26,9 @@ use Rattle.script.proofs.Laws.{too-long, names-too-long, lines-begun, lines-las
 use Rattle.decimal.specs.Spelling.{spelling}
 use Rattle.listing.specs.Text.{line, said}
 use Rattle.runner.specs.Listing.{nothing, called, answered, mostLines, listed, named, body}
-use Rattle.runner.specs.Kept.{next}
+use Rattle.runner.specs.Kept.{next, lineEnd, namesEnd}
 use Rattle.runner.specs.Ends.{onMachine}
-use Rattle.runner.proofs.ByCall.{first-refused}
+use Rattle.runner.proofs.ByCall.{blank-called}
 
 -- ---- a line that has ended
 
@@ -43,6 +42,14 @@ module _ (at : Columns) (w : World) (l : List ℕ) (ls : List (List ℕ)) where
   unfolding next body named
   names-good at′ e = rw e refl
 
+  pub names-good-end : (at′ : Columns) → names l ≡ Names.Order at′ → lineEnd at 1 w l ≡ record { going = true; columns = at′; world = w }
+  unfolding lineEnd namesEnd
+  names-good-end at′ e = rw e refl
+
+  pub names-bad-end : names l ≡ Names.Malformed → lineEnd at 1 w l ≡ record { going = false; columns = at; world = w }
+  unfolding lineEnd namesEnd
+  names-bad-end e = rw e refl
+
   pub names-bad : names l ≡ Names.Malformed → next true at 1 w (l ∷ ls) ≡ line 1 (Refused 11) ++ next false at 2 w ls
   unfolding next body named
   names-bad e = rw e (sym (append-nil (line 1 (Refused 11))))
@@ -54,6 +61,14 @@ module _ (at : Columns) (w : World) (l : List ℕ) (ls : List (List ℕ)) where
     pub past-most : mostLines < n → next true at n w (l ∷ ls) ≡ line n (Refused 11) ++ next false at (n + 1) w ls
     unfolding next listed
     past-most h = rw (not-first, lt-ltb mostLines n h) (sym (append-nil (line n (Refused 11))))
+
+    pub past-most-end : mostLines < n → lineEnd at n w l ≡ record { going = false; columns = at; world = w }
+    unfolding lineEnd
+    past-most-end h = rw (not-first, lt-ltb mostLines n h) refl
+
+    pub line-run-end : n ≤ mostLines → lineEnd at n w l ≡ record { going = true; columns = at; world = answered w (spells at l) .world }
+    unfolding lineEnd
+    line-run-end h = rw (not-first, le-ltb mostLines n h) refl
 
     pub line-run : n ≤ mostLines
         → next true at n w (l ∷ ls)
@@ -70,19 +85,28 @@ module _ (at : Columns) (w : World) (l : List ℕ) (ls : List (List ℕ)) (n : �
   unfolding answered
   line-malformed e = line-run at w l ls n later few ∙ rw e refl
 
+  pub line-malformed-end : spells at l ≡ Line.Malformed → lineEnd at n w l ≡ record { going = true; columns = at; world = w }
+  unfolding answered
+  line-malformed-end e = line-run-end at w l ls n later few ∙ rw e refl
+
+  pub line-called-end : (call : Call) → spells at l ≡ Line.Spells call
+      → lineEnd at n w l ≡ record { going = true; columns = at; world = called w call .world }
+  unfolding answered
+  line-called-end call e = line-run-end at w l ls n later few ∙ rw e refl
+
   pub line-called : (call : Call) → spells at l ≡ Line.Spells call
       → next true at n w (l ∷ ls) ≡ line n (called w call .answer) ++ next true at (n + 1) (called w call .world) ls
   unfolding answered
   line-called call e = line-run at w l ls n later few ∙ rw e refl
 
   -- with no machine, any call but setup is refused
-  pub line-unfounded : (call : Call) → spells at l ≡ Line.Spells call → w ≡ nothing
-      → OneOf (1 ∷ 2 ∷ 3 ∷ 4 ∷ 5 ∷ 6 ∷ 7 ∷ []) (tagOf CallType.the-type call)
-      → next true at n w (l ∷ ls) ≡ line n (Refused 2) ++ next true at (n + 1) w ls
-  line-unfounded call e none h =
-      let refused = first-refused blank (replicate 64 0) (replicate 1024 0) call refl (length-replicate {A = ℕ} 64 0) (length-replicate {A = ℕ} 1024 0) h in
-      line-called call e
-      ∙ rw (none, sym (refused .1 .0)) (ap (λ (x : List ℕ). x ++ next true at (n + 1) nothing ls) (sym (line-said n (Refused 2) _ (refused .0))))
+  module _ (call : Call) (e : spells at l ≡ Line.Spells call) (none : w ≡ nothing)
+      (h : OneOf (1 ∷ 2 ∷ 3 ∷ 4 ∷ 5 ∷ 6 ∷ 7 ∷ []) (tagOf CallType.the-type call)) where
+    pub line-unfounded : next true at n w (l ∷ ls) ≡ line n (Refused 2) ++ next true at (n + 1) w ls
+    line-unfounded = line-called call e ∙ rw (none, blank-called call h) refl
+
+    pub line-unfounded-end : lineEnd at n w l ≡ record { going = true; columns = at; world = w }
+    line-unfounded-end = line-called-end call e ∙ rw (none, blank-called call h) refl
 
 -- the first of the enum needs no machine
 pub setup-alone : (call : Call) → OneOf (0 ∷ []) (tagOf CallType.the-type call) → onMachine call ≡ false

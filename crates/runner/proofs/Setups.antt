@@ -16,9 +16,10 @@ use Rattle.machine.specs.declared.Answer.the-variants.{Ready, Refused}
 use Rattle.machine.specs.Inside.{Good}
 use Rattle.machine.proofs.InsideLaws.{setup-left}
 use Rattle.machine.proofs.Sound.Passed.{in-range}
-use Rattle.runner.specs.Kept.{held, Held}
+use Rattle.runner.specs.Kept.{held, over, Held}
 use Rattle.runner.specs.Listing.{setUp}
 use Rattle.runner.proofs.Acts.{front-held}
+use Rattle.runner.proofs.Over.{over-front}
 
 -- what an accepted setup leaves
 abbrev new : ℕ → ℕ → Result
@@ -62,9 +63,11 @@ refused cores cards cs ps e = go (sizesInRange cores cards) e
     go false i = unfold first unlessLent in refl
 
 -- what set_up promises
-abbrev pub Done : ℕ → ℕ → Outcome → List ℕ → List ℕ → Type 0
-Done cores cards r cs ps =
-    (r .answer ≡ setUp cores cards .answer) × ((held (r .machine) cs ps ≡ setUp cores cards .world) × Held (r .machine) cs ps)
+abbrev pub Done : List ℕ → List ℕ → ℕ → ℕ → Outcome → List ℕ → List ℕ → Type 0
+Done cs₀ ps₀ cores cards r cs ps =
+    (r .answer ≡ setUp cores cards .answer)
+    × ((held (r .machine) cs ps ≡ setUp cores cards .world)
+    × (Held (r .machine) cs ps × ((cs ≡ over (setUp cores cards .world .committed) cs₀) × (ps ≡ over (setUp cores cards .world .pending) ps₀))))
 
 set-up-new : (cores cards : ℕ) → sizesInRange cores cards ≡ true → setUp cores cards ≡ new cores cards
 unfolding setUp
@@ -79,7 +82,7 @@ set-up-refused cores cards e = rw e (refused cores cards [] [] e)
 module _ (cores cards : ℕ) (cs ps : List ℕ) (cl : length cs ≡ 64) (pl : length ps ≡ 1024) (r : Outcome) (cs′ ps′ : List ℕ) where
   pub set-up-accepts : sizesInRange cores cards ≡ true → length cs′ ≡ length (take cards cs) → length ps′ ≡ length (take (cores * cards) ps)
       → left r cs′ ps′ ≡ setup cores cards (take cards cs) (take (cores * cards) ps)
-      → Done cores cards r (cs′ ++ drop cards cs) (ps′ ++ drop (cores * cards) ps)
+      → Done cs ps cores cards r (cs′ ++ drop cards cs) (ps′ ++ drop (cores * cards) ps)
   set-up-accepts e cl′ pl′ s =
       let few = few-cards cores cards e in
       let c = length-take-le cards cs (subst (λ (n : ℕ). cards ≤ n) (sym cl) (few .1)) in
@@ -91,16 +94,22 @@ module _ (cores cards : ℕ) (cs ps : List ℕ) (cl : length cs ≡ 64) (pl : le
         ap (λ (x : Result). x .answer) made,
         (
           front ∙ ap (λ (x : Result). x .world) made,
-          record {
-            committed-long = length-front cs cs′ cards cl′ ∙ cl;
-            pending-long = length-front ps ps′ (cores * cards) pl′ ∙ pl;
-            blank-or-good = inr (subst Good (sym front) g);
-          },
+          (
+            record {
+              committed-long = length-front cs cs′ cards cl′ ∙ cl;
+              pending-long = length-front ps ps′ (cores * cards) pl′ ∙ pl;
+              blank-or-good = inr (subst Good (sym front) g);
+            },
+            (
+              over-front cards cs cs′ _ cl′ (ap (λ (x : Result). x .world .committed) made),
+              over-front (cores * cards) ps ps′ _ pl′ (ap (λ (x : Result). x .world .pending) made),
+            ),
+          ),
         ),
       )
 
   pub set-up-refuses : sizesInRange cores cards ≡ false → length cs′ ≡ length (take 0 cs) → length ps′ ≡ length (take 0 ps)
-      → left r cs′ ps′ ≡ setup cores cards (take 0 cs) (take 0 ps) → Done cores cards r (cs′ ++ drop 0 cs) (ps′ ++ drop 0 ps)
+      → left r cs′ ps′ ≡ setup cores cards (take 0 cs) (take 0 ps) → Done cs ps cores cards r (cs′ ++ drop 0 cs) (ps′ ++ drop 0 ps)
   set-up-refuses e cl′ pl′ s =
       let none = s ∙ refused cores cards (take 0 cs) (take 0 ps) e in
       let blanked = ap (λ (x : Result). x .world .machine) none in
@@ -108,10 +117,16 @@ module _ (cores cards : ℕ) (cs ps : List ℕ) (cl : length cs ≡ 64) (pl : le
         ap (λ (x : Result). x .answer) none ∙ sym (ap (λ (x : Result). x .answer) to),
         (
           ap (λ m. held m (cs′ ++ drop 0 cs) (ps′ ++ drop 0 ps)) blanked ∙ sym (ap (λ (x : Result). x .world) to),
-          record {
-            committed-long = length-front cs cs′ 0 cl′ ∙ cl;
-            pending-long = length-front ps ps′ 0 pl′ ∙ pl;
-            blank-or-good = inl blanked;
-          },
+          (
+            record {
+              committed-long = length-front cs cs′ 0 cl′ ∙ cl;
+              pending-long = length-front ps ps′ 0 pl′ ∙ pl;
+              blank-or-good = inl blanked;
+            },
+            (
+              over-front 0 cs cs′ _ cl′ (ap (λ (x : Result). x .world .committed) (none ∙ sym to)),
+              over-front 0 ps ps′ _ pl′ (ap (λ (x : Result). x .world .pending) (none ∙ sym to)),
+            ),
+          ),
         ),
       )

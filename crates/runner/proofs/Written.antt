@@ -15,7 +15,7 @@ use Rattle.listing.proofs.Laws.{line-short}
 use Rattle.runner.specs.declared.lines.Ended.{Ended}
 use Rattle.runner.specs.declared.lines.Ended.the-variants.{Lists}
 use Rattle.runner.specs.Kept.{next}
-use Rattle.runner.specs.Ends.{onward, count, goes, needsMachine}
+use Rattle.runner.specs.Ends.{onward, leaves, count, goes, needsMachine}
 
 -- the line stands in front, and the bytes after it keep what they held
 in-front : (n : ℕ) (a : Answer) (out out′ : List ℕ) (k : ℕ) → k ≡ length (line n a) → out′ ≡ line n a ++ drop (length (line n a)) out
@@ -47,7 +47,8 @@ pub refusal-left : (at : Columns) (n k : ℕ) (going : Bool) (out out′ : List 
     → out′ ≡ line n (Refused k) ++ drop (length (line n (Refused k))) out
     → ((w : World) (ls : List (List ℕ)) → onward r out′ at n w ls ≡ line n (Refused k) ++ next going at (n + 1) w ls)
     × (needsMachine r ≡ false) × (count r ≤ 32) × (drop (count r) out′ ≡ drop (count r) out) × (goes r ≡ going)
-unfolding onward
+    × ((w : World) → record { going = going; columns = at; world = w } ≡ leaves r at w)
+unfolding onward leaves
 refusal-left at n k going out out′ r is whole =
     let put = in-front n (Refused k) out out′ _ refl whole in
-    rw is (λ w ls. ap (λ (x : List ℕ). x ++ next going at (n + 1) w ls) (put .0), refl, put .1, put .2, refl)
+    rw is (λ w ls. ap (λ (x : List ℕ). x ++ next going at (n + 1) w ls) (put .0), refl, put .1, put .2, refl, λ w. refl)

@@ -11,12 +11,17 @@ use Rattle.listing.specs.Text.{line}
 use Rattle.runner.specs.declared.lines.Ended.{Ended}
 use Rattle.runner.specs.declared.lines.Ended.the-variants.{Calls, Lists}
 use Rattle.runner.specs.Listing.{called}
-use Rattle.runner.specs.Kept.{next}
+use Rattle.runner.specs.Kept.{next, Ending}
 
 -- what is listed of line n and of the lines after it: the call's answer, or what the output holds
 unfoldable pub onward : Ended → List ℕ → Columns → ℕ → World → List (List ℕ) → List ℕ
 onward (Calls call) out at n w ls = line n (called w call .answer) ++ next true at (n + 1) (called w call .world) ls
 onward (Lists l) out at n w ls = take (l .written) out ++ next (l .going) (l .columns) (n + 1) w ls
+
+-- what the line leaves, the call made if it asks for one
+unfoldable pub leaves : Ended → Columns → World → Ending
+leaves (Calls call) at w = record { going = true; columns = at; world = called w call .world }
+leaves (Lists l) at w = record { going = l .going; columns = l .columns; world = w }
 
 -- how many bytes of the output are written
 abbrev pub count : Ended → ℕ

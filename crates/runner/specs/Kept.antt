@@ -59,6 +59,9 @@ pub record State : Type 0 where
   pub committed : List ℕ
   pub pending : List ℕ
 
+abbrev pub state : Reading → List ℕ → List ℕ → State
+state r committed pending = record { reading = r; committed = committed; pending = pending }
+
 -- a table whose first words are these; the others stay
 abbrev pub over : List ℕ → List ℕ → List ℕ
 over words table = words ++ drop (length words) table
@@ -81,8 +84,8 @@ lineEnd at n w l =
     (record { going = true; columns = at; world = answered w (spells at l) .world }))
 
 -- the next line begins
-abbrev pub onward : State → Ending → State
-onward s e =
+abbrev pub pastLine : State → Ending → State
+pastLine s e =
     record {
       reading =
           record {
@@ -106,8 +109,8 @@ unfoldable pub after : State → ℕ → State
 after s b =
     let r : Reading = s .reading in
     cond (eqb b 10)
-    (cond (r .going) (onward s (lineEnd (r .columns) (r .number) (held (r .machine) (s .committed) (s .pending)) (begun r))) s)
-    (cond (ltb (r .length) 65) (record { reading = joining r b; committed = s .committed; pending = s .pending }) s)
+    (cond (r .going) (pastLine s (lineEnd (r .columns) (r .number) (held (r .machine) (s .committed) (s .pending)) (begun r))) s)
+    (cond (ltb (r .length) 65) (state (joining r b) (s .committed) (s .pending)) s)
 
 -- what these bytes leave
 unfoldable pub fed : State → List ℕ → State

@@ -3,7 +3,7 @@ use machine::Machine;
 use machine::Outcome;
 ghost use mathlib.Core.Path.{_≡_};
 ghost use lib.ListN.{length};
-ghost use Rattle.runner.specs.Kept.{held, Held};
+ghost use Rattle.runner.specs.Kept.{held, over, Held};
 ghost use Rattle.runner.specs.Listing.{setUp};
 
 // Setup, with as many words of each table as it asks for.
@@ -12,6 +12,7 @@ pub fn set_up(cores: u32, cards: u32, committed: &mut [u32], pending: &mut [u32]
     ensures answer { λ r. ⌜ r .answer ≡ setUp cores cards .answer ⌝ }
     ensures world { λ r. ⌜ held (r .machine) (now (committed .exit)) (now (pending .exit)) ≡ setUp cores cards .world ⌝ }
     ensures kept { λ r. ⌜ Held (r .machine) (now (committed .exit)) (now (pending .exit)) ⌝ }
+    ensures tables { λ r. ⌜ (now (committed .exit) ≡ over (setUp cores cards .world .committed) (now (committed .entry))) × (now (pending .exit) ≡ over (setUp cores cards .world .pending) (now (pending .entry))) ⌝ }
 {
     if machine::in_range(cores, cards) {
         let d = cards as usize;

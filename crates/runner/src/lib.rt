@@ -17,9 +17,9 @@ ghost use mathlib.Core.Path.{_≡_};
 ghost use mathlib.Core.Bool.{_||_};
 ghost use lib.Dec.{eqb, ltb};
 ghost use mathlib.Core.List.{List, [], _++_};
-ghost use Prim.Native.Nat.{ℕ, _+_, _*_, _≤_};
-ghost use lib.ListN.{length, take, drop, getD};
-ghost use Rattle.runner.specs.Kept.{Fit, rest};
+ghost use Prim.Native.Nat.{ℕ, _*_, _≤_};
+ghost use lib.ListN.{length, take, drop};
+ghost use Rattle.runner.specs.Kept.{Fit, rest, state, fed, finished};
 ghost use Rattle.runner.specs.Listing.{body};
 ghost use Rattle.script.specs.Pieces.{lines as linesOf};
 
@@ -68,7 +68,7 @@ pub fn start(committed: &[u32], pending: &[u32]) -> Reading
 }
 
 // The next bytes of the script. The output needs 32 bytes for each of them; what is written is what the chunk adds to the listing, and
-// the bytes after it keep what they held. After a newline nothing is left to be listed, should the script end there.
+// the bytes after it keep what they held. What is kept, with every word of both tables, is what `fed` says.
 //
 // The calls are made in the loop itself: the record goes by value, and a function between the loop and a call would copy it in and out.
 pub fn feed(
@@ -81,7 +81,8 @@ pub fn feed(
     requires { ⌜ Fit r (now committed) (now pending) × (32 * length (now chunk) ≤ length (now output)) ⌝ }
     ensures fit { λ o. ⌜ Fit (o .reading) (now (committed .exit)) (now (pending .exit)) ⌝ }
     ensures listed { λ o. ⌜ ((bytes : List ℕ) → rest r (now (committed .entry)) (now (pending .entry)) (now (chunk .entry) ++ bytes) ≡ take (o .written) (now (output .exit)) ++ rest (o .reading) (now (committed .exit)) (now (pending .exit)) bytes) ⌝ }
-    ensures after { λ o. ⌜ (o .written ≤ 32 * length (now (chunk .entry))) × (drop (o .written) (now (output .exit)) ≡ drop (o .written) (now (output .entry))) × ((j : ℕ) → j + 1 ≡ length (now (chunk .entry)) → getD (now (chunk .entry)) j 0 ≡ 10 → rest (o .reading) (now (committed .exit)) (now (pending .exit)) [] ≡ []) ⌝ }
+    ensures after { λ o. ⌜ (o .written ≤ 32 * length (now (chunk .entry))) × (drop (o .written) (now (output .exit)) ≡ drop (o .written) (now (output .entry))) ⌝ }
+    ensures kept { λ o. ⌜ state (o .reading) (now (committed .exit)) (now (pending .exit)) ≡ fed (state r (now (committed .entry)) (now (pending .entry))) (now (chunk .entry)) ⌝ }
 {
     let mut going = r.going;
     let mut columns = r.columns;
@@ -182,6 +183,7 @@ pub fn finish(r: Reading, committed: &mut [u32], pending: &mut [u32], output: &m
     requires { ⌜ Fit r (now committed) (now pending) × (32 ≤ length (now output)) ⌝ }
     ensures listed { λ n. ⌜ take n (now (output .exit)) ≡ rest r (now (committed .entry)) (now (pending .entry)) [] ⌝ }
     ensures after { λ n. ⌜ (n ≤ 32) × (drop n (now (output .exit)) ≡ drop n (now (output .entry))) ⌝ }
+    ensures kept { λ _. ⌜ (now (committed .exit) ≡ finished (state r (now (committed .entry)) (now (pending .entry))) .committed) × (now (pending .exit) ≡ finished (state r (now (committed .entry)) (now (pending .entry))) .pending) ⌝ }
 {
     let length = r.length;
     if r.going {

@@ -13,8 +13,8 @@ ghost use lib.ListN.{length, drop};
 ghost use Rattle.machine.specs.Rule.{World};
 ghost use Rattle.machine.specs.declared.Answer.the-variants.{Refused};
 ghost use Rattle.listing.specs.Text.{line as lineOf};
-ghost use Rattle.runner.specs.Kept.{next};
-ghost use Rattle.runner.specs.Ends.{onward, count, goes, needsMachine};
+ghost use Rattle.runner.specs.Kept.{next, lineEnd};
+ghost use Rattle.runner.specs.Ends.{onward, leaves, count, goes, needsMachine};
 ghost use Rattle.runner.specs.Listing.{mostLines, nothing};
 
 // How many lines are read, the line of names among them.
@@ -54,6 +54,7 @@ fn first_line(columns: Columns, line: &[u8], output: &mut [u8]) -> Ended
     requires { ⌜ 32 ≤ length (now output) ⌝ }
     ensures lines { λ r. ⌜ ((ls : List (List ℕ)) → next true columns 1 nothing (now (line .entry) ∷ ls) ≡ onward r (now (output .exit)) columns 1 nothing ls) ⌝ }
     ensures after { λ r. ⌜ (needsMachine r ≡ false) × (count r ≤ 32) × (drop (count r) (now (output .exit)) ≡ drop (count r) (now (output .entry))) ⌝ }
+    ensures ends { λ r. ⌜ lineEnd columns 1 nothing (now (line .entry)) ≡ leaves r columns nothing ⌝ }
 {
     let Names::Order(order) = script::order(line) else {
         return refused(columns, 1, 11, false, output);
@@ -70,6 +71,7 @@ fn value_line(columns: Columns, number: u32, line: &[u8], cores: u8, output: &mu
     requires { ⌜ (32 ≤ length (now output)) × (1 < number) × (number ≤ mostLines) ⌝ }
     ensures lines { λ r. ⌜ ((w : World) → (cores ≡ 0 → w ≡ nothing) → (ls : List (List ℕ)) → next true columns number w (now (line .entry) ∷ ls) ≡ onward r (now (output .exit)) columns number w ls) ⌝ }
     ensures after { λ r. ⌜ (needsMachine r ≡ true → cores ≡ 0 → ⊥) × (count r ≤ 32) × (drop (count r) (now (output .exit)) ≡ drop (count r) (now (output .entry))) ⌝ }
+    ensures ends { λ r. ⌜ ((w : World) → (cores ≡ 0 → w ≡ nothing) → lineEnd columns number w (now (line .entry)) ≡ leaves r columns w) ⌝ }
 {
     let Line::Spells(call) = script::parse(columns, line) else {
         return refused(columns, number, 11, true, output);
@@ -87,6 +89,7 @@ pub fn end_line(columns: Columns, number: u32, line: &[u8], cores: u8, output: &
     requires { ⌜ (32 ≤ length (now output)) × (0 < number) × (number ≡ 1 → cores ≡ 0) ⌝ }
     ensures lines { λ r. ⌜ ((w : World) → (cores ≡ 0 → w ≡ nothing) → (ls : List (List ℕ)) → next true columns number w (now (line .entry) ∷ ls) ≡ onward r (now (output .exit)) columns number w ls) ⌝ }
     ensures after { λ r. ⌜ (needsMachine r ≡ true → cores ≡ 0 → ⊥) × (count r ≤ 32) × (drop (count r) (now (output .exit)) ≡ drop (count r) (now (output .entry))) × (goes r ≡ true → number ≤ mostLines) ⌝ }
+    ensures ends { λ r. ⌜ ((w : World) → (cores ≡ 0 → w ≡ nothing) → lineEnd columns number w (now (line .entry)) ≡ leaves r columns w) ⌝ }
 {
     if number == 1 {
         return first_line(columns, line, output);

@@ -22,7 +22,8 @@ use Rattle.runner.proofs.Acts.{Done, done-same}
 use Rattle.runner.proofs.Sizes.{own-words, committed-room, pending-room, good-for-call}
 use Rattle.runner.proofs.ByCall.{setup-done, release-done, begin-done, give-up-done, finish-done, read-done, write-done, commit-done}
 use Rattle.runner.proofs.Written.{written}
-use Rattle.runner.proofs.Feeding.{reading, Feeding, Left, feeding-starts, feeding-skips, feeding-loses, feeding-keeps, line-lists, line-calls, call-output, feeding-same, part-room, room-left, feeding-done}
+use Rattle.runner.proofs.Stepping.{reading}
+use Rattle.runner.proofs.Feeding.{Feeding, Left, feeding-starts, feeding-skips, feeding-loses, feeding-keeps, line-lists, line-calls, call-output, feeding-same, part-room, room-left, feeding-done, feeding-kept}
 use Rattle.runner.proofs.feed.Statement.{statement}
 use Rattle.runner.proofs.feed.Tie as tie
 
@@ -90,7 +91,7 @@ good : (c : tie.After-struct-known2 Inv-loop μ-loop) (x : Call) → c .before .
     → Good (held (c .before .before .before .before .before .before .before .before .before .before .before .before .before .before .loop .machine) (c .before .before .before .before .before .before .before .before .before .before .before .before .before .before .loop .committed) (c .before .before .before .before .before .before .before .before .before .before .before .before .before .before .loop .pending))
 good c x spelt needs-it =
     good-for-call _ _ _ (c .before .before .before .before .before .before .before .before .before .before .before .before .before .before .loop .inv .fit .holds) (c .before .before .before .before .before .before .before .end-line .result) _ (c .before .before .before .ended .given .1)
-    (c .before .before .before .before .before .before .before .end-line .ensures .1 .0) x spelt needs-it
+    (c .before .before .before .before .before .before .before .end-line .ensures .1 .0 .0) x spelt needs-it
 
 mul-n : tie.Need-mul-n Inv-loop μ-loop
 mul-n c = record { fits = omega (arith, own-words _ _ _ (c .before .before .before .before .before .before .before .before .before .before .before .before .before .before .loop .inv .fit .holds)) }
@@ -183,7 +184,7 @@ finish-requires c κs = good (c .before .before .before) _ (c .before .call8 .gi
 
 -- where the calls meet: what was done is by the rule
 ran : (c : tie.At-match2-came Inv-loop μ-loop) → let at = c .before .before .before .before .before .before .before .before .before .before .before .before .before .before .before .loop in
-    Done (held (at .machine) (at .committed) (at .pending)) (called (held (at .machine) (at .committed) (at .pending)) (c .before .before .before .before .ended .given .0 .0))
+    Done (at .committed) (at .pending) (called (held (at .machine) (at .committed) (at .pending)) (c .before .before .before .before .ended .given .0 .0))
     (c .match2 .done) (c .match2 .committed) (c .match2 .pending)
 ran c =
     let at = c .before .before .before .before .before .before .before .before .before .before .before .before .before .before .before .loop in
@@ -192,14 +193,14 @@ ran c =
     let holds = at .inv .fit .holds in
     let cl = holds .committed-long in
     let pl = holds .pending-long in
-    ⊎-elim (λ s. done-same w x (s .10) (s .11) (s .12) (setup-done (at .machine) (at .committed) (at .pending) _ _ _ _ _ _ (s .1 .given .1) (s .5 .ensures)))
-    (⊎-elim (λ s. done-same w x (s .4) (s .5) (s .6) (release-done _ _ _ (good (c .before) _ (s .1 .given .1) refl) cl pl _ _ _ _ _ (s .1 .given .1) (s .3 .ensures)))
-    (⊎-elim (λ s. done-same w x (s .4) (s .5) (s .6) (begin-done _ _ _ (good (c .before) _ (s .1 .given .1) refl) cl pl _ _ _ (s .1 .given .1) (s .3 .ensures)))
-    (⊎-elim (λ s. done-same w x (s .6) (s .7) (s .8) (read-done _ _ _ (good (c .before) _ (s .1 .given .1) refl) cl pl _ _ _ _ (s .1 .given .1) (s .5 .ensures)))
-    (⊎-elim (λ s. done-same w x (s .8) (s .9) (s .10) (write-done _ _ _ (good (c .before) _ (s .1 .given .1) refl) cl pl _ _ _ _ _ _ (s .1 .given .1) (s .5 .kept .1 .1 .1 .1 .1 .0) (s .5 .ensures)))
-    (⊎-elim (λ s. done-same w x (s .10) (s .11) (s .12) (commit-done _ _ _ (good (c .before) _ (s .1 .given .1) refl) cl pl _ _ _ _ _ (s .1 .given .1) (s .5 .kept .1 .1 .0) (s .5 .kept .1 .1 .1 .0) (s .5 .ensures .0) (s .5 .ensures .1)))
-    (⊎-elim (λ s. done-same w x (s .4) (s .5) (s .6) (give-up-done _ _ _ (good (c .before) _ (s .1 .given .1) refl) cl pl _ _ _ (s .1 .given .1) (s .3 .ensures)))
-    (λ s. done-same w x (s .4) (s .5) (s .6) (finish-done _ _ _ (good (c .before) _ (s .1 .given .1) refl) cl pl _ _ _ (s .1 .given .1) (s .3 .ensures)))))))))
+    ⊎-elim (λ s. done-same (at .committed) (at .pending) x (s .10) (s .11) (s .12) (setup-done (at .machine) (at .committed) (at .pending) _ _ _ _ _ _ (s .1 .given .1) (s .5 .ensures)))
+    (⊎-elim (λ s. done-same (at .committed) (at .pending) x (s .4) (s .5) (s .6) (release-done _ _ _ (good (c .before) _ (s .1 .given .1) refl) cl pl _ _ _ _ _ (s .1 .given .1) (s .3 .ensures)))
+    (⊎-elim (λ s. done-same (at .committed) (at .pending) x (s .4) (s .5) (s .6) (begin-done _ _ _ (good (c .before) _ (s .1 .given .1) refl) cl pl _ _ _ (s .1 .given .1) (s .3 .ensures)))
+    (⊎-elim (λ s. done-same (at .committed) (at .pending) x (s .6) (s .7) (s .8) (read-done _ _ _ (good (c .before) _ (s .1 .given .1) refl) cl pl _ _ _ _ (s .1 .given .1) (s .5 .ensures)))
+    (⊎-elim (λ s. done-same (at .committed) (at .pending) x (s .8) (s .9) (s .10) (write-done _ _ _ (good (c .before) _ (s .1 .given .1) refl) cl pl _ _ _ _ _ _ (s .1 .given .1) (s .5 .kept .1 .1 .1 .1 .1 .0) (s .5 .ensures)))
+    (⊎-elim (λ s. done-same (at .committed) (at .pending) x (s .10) (s .11) (s .12) (commit-done _ _ _ (good (c .before) _ (s .1 .given .1) refl) cl pl _ _ _ _ _ (s .1 .given .1) (s .5 .kept .1 .1 .0) (s .5 .kept .1 .1 .1 .0) (s .5 .ensures .0) (s .5 .ensures .1)))
+    (⊎-elim (λ s. done-same (at .committed) (at .pending) x (s .4) (s .5) (s .6) (give-up-done _ _ _ (good (c .before) _ (s .1 .given .1) refl) cl pl _ _ _ (s .1 .given .1) (s .3 .ensures)))
+    (λ s. done-same (at .committed) (at .pending) x (s .4) (s .5) (s .6) (finish-done _ _ _ (good (c .before) _ (s .1 .given .1) refl) cl pl _ _ _ (s .1 .given .1) (s .3 .ensures)))))))))
     (c .match2 .came)
 
 -- after a line that asks for a call the output is as it was
@@ -218,7 +219,7 @@ output₁ c =
     ++ (c .before .before .before .before .end-line .last .1 .1 .1 .1 .0 ++ Nat.drop (Nat.length (at .output) - at .written) (Nat.drop (at .written) (at .output)))
 
 same : (c : tie.After-ended Inv-loop μ-loop) → output₁ c ≡ c .before .before .before .before .before .before .before .before .before .before .before .loop .output
-same c = call-output _ _ _ (left c .1 .2)
+same c = call-output _ _ _ (left c .1 .0 .2)
 
 room₁ : (c : tie.After-ended Inv-loop μ-loop) → c .before .before .before .before .before .before .before .before .before .before .before .loop .written + 32 ≤ Nat.length (output₁ c)
 room₁ c = subst (λ (o : List ℕ). c .before .before .before .before .before .before .before .before .before .before .before .loop .written + 32 ≤ Nat.length o) (sym (same c)) (room (c .before .before .before .before .before .before .before .before .before .before))
@@ -248,7 +249,7 @@ enum-known-ended-2 c = search needs
 add-written-2 : tie.Need-add-written-2 Inv-loop μ-loop
 add-written-2 c =
     let at = c .before .before .before .before .before .before .before .before .before .before .before .before .before .before in
-    let few = subst (λ (e : Ended). count e ≤ 32) (c .before .before .before .ended2 .given .1) (c .before .before .before .before .before .before .before .end-line .ensures .1 .1) in
+    let few = subst (λ (e : Ended). count e ≤ 32) (c .before .before .before .ended2 .given .1) (c .before .before .before .before .before .before .before .end-line .ensures .1 .0 .1) in
     record { fits = omega (arith, few, room (c .before .before .before .before .before .before .before .before .before .before .before .before .before), at .before .before .before .before .before .before .before .before .good .1 .1 .1 .1 .0 .0, at .loop .inv .out-long) }
 
 add-number : tie.Need-add-number Inv-loop μ-loop
@@ -284,7 +285,7 @@ loop-less-2 c = omega (arith, c .before .before .before .loop-test .taken)
 
 loop-again-2 : tie.Need-loop-again-2 Inv-loop μ-loop
 loop-again-2 c =
-    feeding-skips _ _ _ _ _ _ _ _ _ _ _ (c .before .before .before .before .loop .inv) (c .before .before .before .loop-test .taken) (c .if2 .left)
+    feeding-skips _ _ _ _ _ _ _ _ _ _ _ (c .before .before .before .before .loop .inv) (c .before .before .before .loop-test .taken) (c .before .if1 .taken) (c .if2 .left)
 
 array-write-line : tie.Need-array-write-line Inv-loop μ-loop
 array-write-line c = omega (arith, c .if3 .taken)
@@ -321,7 +322,7 @@ returns c =
       inv .fit,
       (
         feeding-done inv (c .loop-test .left),
-        (omega (arith, inv .room, inv .within), inv .after, λ j last. inv .ended j (omega (arith, last, inv .within, c .loop-test .left))),
+        ((omega (arith, inv .room, inv .within), inv .after), feeding-kept inv (c .loop-test .left)),
       ),
     )
 

@@ -5,7 +5,9 @@ use Prim.Native.Nat.{ℕ}
 use native.Mathlib.Omega.{arith}
 use lib.ListN.{take}
 use borrow.Author.Needs.{needs}
-use Rattle.runner.proofs.Finishing.{over, none-left, line-left}
+use Rattle.runner.proofs.Finishing.{over, none-left, newline-none, line-left}
+use Rattle.runner.specs.Kept.{State, fed}
+use Rattle.runner.proofs.Stepping.{finished-over, finished-none, finished-line}
 use Rattle.runner.proofs.finish.Statement.{statement}
 use Rattle.runner.proofs.finish.Tie as tie
 
@@ -30,27 +32,34 @@ same-length-3 : tie.Need-same-length-3
 same-length-3 c = search needs
 
 returns : tie.Need-returns
+unfolding fed
 returns c =
     let done = c .before .before .before .before .before .before in
     let then2 = done .before .before .before .before .before in
     let start = then2 .before .before .before .before .before .before in
-    let fed = done .feed .ensures in
-    let none = fed .1 .1 .2 0 refl refl in
+    let did = done .feed .ensures in
+    let on = then2 .before .before .if1 .taken in
+    let some = sym (then2 .before .line-left .ensures) ∙ then2 .if2 .taken in
+    let none = newline-none _ _ _ (start .pre .0 .some-line) on _ _ _ (did .1 .1 .1) in
+    let past = did .1 .1 .1 ∙ sym (finished-line _ _ _ on some) in
     let text = take (done .feed .result .written) (done .feed .last .1 .1 .1 .1 .0) in (
-      sym (append-nil text) ∙ ap (λ (x : List ℕ). text ++ x) (sym none) ∙ sym (fed .1 .0 [])
-          ∙ line-left _ _ _ (start .pre .0) (then2 .before .before .if1 .taken) (sym (then2 .before .line-left .ensures) ∙ then2 .if2 .taken),
-      (fed .1 .1 .0, fed .1 .1 .1),
+      sym (append-nil text) ∙ ap (λ (x : List ℕ). text ++ x) (sym none) ∙ sym (did .1 .0 [])
+          ∙ line-left _ _ _ (start .pre .0) on some,
+      (did .1 .1 .0, (ap (λ (s : State). s .committed) past, ap (λ (s : State). s .pending) past)),
     )
 
 returns-2 : tie.Need-returns-2
 returns-2 c =
     let start = c .before .before .before .before .before .before in
-    (none-left _ _ _ (start .pre .0) (sym (c .before .line-left .ensures) ∙ c .if2 .left), (omega arith, refl))
+    let none = sym (c .before .line-left .ensures) ∙ c .if2 .left in
+    let same = sym (finished-none _ _ _ (c .before .before .if1 .taken) none) in
+    (none-left _ _ _ (start .pre .0) none, ((omega arith, refl), (ap (λ (s : State). s .committed) same, ap (λ (s : State). s .pending) same)))
 
 returns-3 : tie.Need-returns-3
 returns-3 c =
     let start = c .before .before .before .before in
-    (over _ _ _ (start .pre .0) (c .if1 .left), (omega arith, refl))
+    let same = sym (finished-over _ _ _ (c .if1 .left)) in
+    (over _ _ _ (start .pre .0) (c .if1 .left), ((omega arith, refl), (ap (λ (s : State). s .committed) same, ap (λ (s : State). s .pending) same)))
 
 pub finish-spec : {M : Type 1} → statement M
 finish-spec =
