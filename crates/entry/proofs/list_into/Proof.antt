@@ -91,7 +91,7 @@ loop-less c = search needs
 loop-again : tie.Need-loop-again Inv-loop μ-loop
 loop-again c =
     running-goes _ _ _ _ _ _ _ _ _ (c .before .before .before .before .before .before .before .before .before .before .before .before .before .before .before .before .loop .inv) _ _ _ _ _ _ _ (c .before .before .before .before .before .before .before .before .before .before .before .before .before .before .chunk-end .ensures .0) (c .before .before .before .before .before .before .before .before .before .before .before .before .before .before .chunk-end .ensures .1)
-    (c .before .before .before .before .before .before .before .before .before .feed .ensures .0) (c .before .before .before .before .before .before .before .before .before .feed .kept .1 .1 .1 .1 .0 ∙ c .before .before .before .before .before .before .before .before .before .before .before .before .before .before .before .before .loop .inv .scratch-long) (few-bytes _ _ _ _ (c .before .before .before .before .before .before .before .before .before .before .before .before .before .before .chunk-end .ensures .2) (c .before .before .before .before .before .before .before .before .before .feed .ensures .1 .1 .0)) (c .before .before .before .before .before .before .before .before .before .feed .ensures .1 .0) (c .before .before .put-bytes2 .ensures .1)
+    (c .before .before .before .before .before .before .before .before .before .feed .ensures .0) (c .before .before .before .before .before .before .before .before .before .feed .kept .1 .1 .1 .1 .0 ∙ c .before .before .before .before .before .before .before .before .before .before .before .before .before .before .before .before .loop .inv .scratch-long) (few-bytes _ _ _ _ (c .before .before .before .before .before .before .before .before .before .before .before .before .before .before .chunk-end .ensures .2) (c .before .before .before .before .before .before .before .before .before .feed .ensures .1 .1 .0 .0)) (c .before .before .before .before .before .before .before .before .before .feed .ensures .1 .0) (c .before .before .put-bytes2 .ensures .1)
 
 add-total : tie.Need-add-total Inv-loop μ-loop
 add-total c =
@@ -128,7 +128,7 @@ returns c =
     let put = at .before .before .before .before .before .before .before .before .before .before .put-heading in
     running-ends _ _ _ _ _ _ _ _ _ (at .loop .inv) _ _ _ _ (ended .finish .result) (ended .before .before .before .before .loop-test .left) (at .before .before .before .before .before .before .put-bytes .ensures .1)
     (heading-put _ _ _ refl (put .ensures .0) (put .ensures .1) .1) (ended .finish .ensures .0)
-    (omega (arith, ended .finish .ensures .1 .0, ended .finish .kept .1 .1 .1 .0, at .loop .inv .scratch-long)) (c .before .before .put-bytes3 .ensures .1)
+    (omega (arith, ended .finish .ensures .1 .0 .0, ended .finish .kept .1 .1 .1 .0, at .loop .inv .scratch-long)) (c .before .before .put-bytes3 .ensures .1)
 
 add-result : tie.Need-add-result Inv-loop μ-loop
 add-result c =
