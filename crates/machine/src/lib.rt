@@ -88,8 +88,8 @@ pub enum Answer {
 
 // What a call hands back: its answer and the record after it.
 pub struct Outcome {
-    pub answer: Answer,
     pub machine: Machine,
+    pub answer: Answer,
 }
 
 // Whether there may be that many cores and cards.
