@@ -242,11 +242,13 @@ fn ticket_differs(m: Machine, c: usize, ticket: u32) -> bool
     ensures { λ r. ⌜ r ≡ each c (λ e. coreAt m e .active ⇒ not (eqb ticket (coreAt m e .ticket))) ⌝ }
 {
     let mut e: usize = 0;
-    while e < c {
+    while e < 16 {
         let k = m.core[e];
-        if k.active {
-            if ticket == k.ticket {
-                return false;
+        if e < c {
+            if k.active {
+                if ticket == k.ticket {
+                    return false;
+                }
             }
         }
         e += 1;
