@@ -196,13 +196,12 @@ fn versions_bounded(m: Machine) -> bool
     let mut d: usize = 0;
     while d < 64 {
         let v = versions[d];
-        if m.commits < v {
-            return false;
-        }
-        if objects <= d {
-            if v != 0 {
+        if d < objects {
+            if m.commits < v {
                 return false;
             }
+        } else if v != 0 {
+            return false;
         }
         d += 1;
     }
