@@ -240,17 +240,17 @@ fn ticket_differs(m: Machine, c: usize, ticket: u32) -> bool
     requires { ⌜ c < 16 ⌝ }
     ensures { λ r. ⌜ r ≡ each c (λ e. coreAt m e .active ⇒ not (eqb ticket (coreAt m e .ticket))) ⌝ }
 {
-    let mut e: usize = 0;
-    while e < 16 {
-        let k = m.core[e];
-        if e < c {
+    let mut other: usize = 0;
+    while other < 16 {
+        let k = m.core[other];
+        if other < c {
             if k.active {
                 if ticket == k.ticket {
                     return false;
                 }
             }
         }
-        e += 1;
+        other += 1;
     }
     true
 }

@@ -15,10 +15,10 @@ use Rattle.machine.proofs.soundness.ticket_differs.Statement.{statement
 use Rattle.machine.proofs.soundness.ticket_differs.Tie as tie
 
 abbrev Inv-loop : tie.InvT-loop
-Inv-loop c ticket m e₀ e = (e ≤ 16) × ((f : ℕ) → f < e → f < c → differsFrom m ticket f ≡ true)
+Inv-loop c ticket m other₀ other = (other ≤ 16) × ((e : ℕ) → e < other → e < c → differsFrom m ticket e ≡ true)
 
 abbrev μ-loop : tie.MeasureT-loop
-μ-loop c ticket m e₀ e = 16 - e
+μ-loop c ticket m other₀ other = 16 - other
 
 loop-holds : tie.Need-loop-holds Inv-loop μ-loop
 loop-holds c = (omega arith, below-none _)
@@ -34,8 +34,8 @@ returns c =
     let before-own = c .before .before .before in
     each-fails _ _ _ (before-own .if1 .taken) (rw (c .before .before .if2 .taken, eq-eqb _ _ (c .if3 .taken)))
 
-add-e : tie.Need-add-e Inv-loop μ-loop
-add-e c = search needs
+add-other : tie.Need-add-other Inv-loop μ-loop
+add-other c = search needs
 
 loop-less : tie.Need-loop-less Inv-loop μ-loop
 loop-less c = search needs
@@ -51,7 +51,7 @@ loop-again c = (
 returns-2 : tie.Need-returns-2 Inv-loop μ-loop
 returns-2 c =
     let start = c .before .before in
-    sym (one-each _ _ (λ f l. c .before .loop .inv .1 f (omega (arith, start .pre, c .loop-test .left)) l))
+    sym (one-each _ _ (λ e l. c .before .loop .inv .1 e (omega (arith, start .pre, c .loop-test .left)) l))
 
 pub ticket-differs-spec : {M : Type 1} → statement M
 ticket-differs-spec =
@@ -63,7 +63,7 @@ ticket-differs-spec =
     mul-k
     element-copy-out-k
     returns
-    add-e
+    add-other
     loop-less
     loop-again
     returns-2)
