@@ -86,7 +86,7 @@ pub enum Answer {
     Refused(u8),
 }
 
-// What a call hands back: its answer and the record after it.
+// What a call hands back: the record after it and its answer. The record stands first, which saves the compiler copies of it.
 pub struct Outcome {
     pub machine: Machine,
     pub answer: Answer,

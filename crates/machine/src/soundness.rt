@@ -235,7 +235,8 @@ fn aborts_bounded(m: Machine, ticket: u32, aborts: u8) -> bool
     aborts as usize + n < m.cores as usize
 }
 
-// Whether the ticket differs from those in progress on the cores before core c.
+// Whether the ticket differs from those in progress on the cores before core c. The loop goes over all 16: with a constant bound the
+// compiler makes no copy of the record here.
 fn ticket_differs(m: Machine, c: usize, ticket: u32) -> bool
     requires { ⌜ c < 16 ⌝ }
     ensures { λ r. ⌜ r ≡ each c (λ e. coreAt m e .active ⇒ not (eqb ticket (coreAt m e .ticket))) ⌝ }
