@@ -86,10 +86,10 @@ pub enum Answer {
     Refused(u8),
 }
 
-// What a call hands back: its answer and the record after it.
+// What a call hands back: the record after it and its answer. The record stands first, which saves the compiler copies of it.
 pub struct Outcome {
-    pub answer: Answer,
     pub machine: Machine,
+    pub answer: Answer,
 }
 
 // Whether a machine may have that many cores and cards.
@@ -176,14 +176,13 @@ impl Machine {
         ensures rule { λ r. ⌜ r ≡ Rule.release self core job deadline ⌝ }
         ensures paper { λ r. ⌜ Smallest (number (r .answer)) (refusals (lent self [] []) (Rule.Release core job deadline)) × (values (r .answer) ≡ values (Rule.release self core job deadline .answer)) ⌝ }
     {
-        if is_sound(self) {
-            jobs::release(self, core, job, deadline)
-        } else {
-            Outcome {
+        if !is_sound(self) {
+            return Outcome {
                 answer: Answer::Refused(2),
                 machine: self,
-            }
+            };
         }
+        jobs::release(self, core, job, deadline)
     }
 
     // The running job's transaction gets the next ticket: 2 unsound record, 4 no such core, 7 the core has no job, 8 a transaction
@@ -192,14 +191,13 @@ impl Machine {
         ensures rule { λ r. ⌜ r ≡ Rule.begin self core ⌝ }
         ensures paper { λ r. ⌜ Smallest (number (r .answer)) (refusals (lent self [] []) (Rule.Begin core)) × (values (r .answer) ≡ values (Rule.begin self core .answer)) ⌝ }
     {
-        if is_sound(self) {
-            transaction::begin(self, core)
-        } else {
-            Outcome {
+        if !is_sound(self) {
+            return Outcome {
                 answer: Answer::Refused(2),
                 machine: self,
-            }
+            };
         }
+        transaction::begin(self, core)
     }
 
     // The card's pending value if this attempt wrote it, else its committed value, and the committed version; the card joins the
@@ -209,21 +207,19 @@ impl Machine {
         ensures rule { λ r. ⌜ left r (now (committed .exit)) (now (pending .exit)) ≡ Rule.read (lent self (now (committed .entry)) (now (pending .entry))) core object ⌝ }
         ensures paper { λ r. ⌜ Smallest (number (r .answer)) (refusals (lent self (now (committed .entry)) (now (pending .entry))) (Rule.Read core object)) × (values (r .answer) ≡ values (Rule.read (lent self (now (committed .entry)) (now (pending .entry))) core object .answer)) ⌝ }
     {
-        if is_sound(self) {
-            if tables_fit(self.cores, self.objects, committed.len(), pending.len()) {
-                access::read(self, core, object, committed, pending)
-            } else {
-                Outcome {
-                    answer: Answer::Refused(3),
-                    machine: self,
-                }
-            }
-        } else {
-            Outcome {
+        if !is_sound(self) {
+            return Outcome {
                 answer: Answer::Refused(2),
                 machine: self,
-            }
+            };
         }
+        if !tables_fit(self.cores, self.objects, committed.len(), pending.len()) {
+            return Outcome {
+                answer: Answer::Refused(3),
+                machine: self,
+            };
+        }
+        access::read(self, core, object, committed, pending)
     }
 
     // Stores the pending word; the card joins the write set. A marked transaction is told that it was set back instead. 2 unsound
@@ -240,21 +236,19 @@ impl Machine {
         ensures rule { λ r. ⌜ left r (now (committed .exit)) (now (pending .exit)) ≡ Rule.write (lent self (now (committed .entry)) (now (pending .entry))) core object value ⌝ }
         ensures paper { λ r. ⌜ Smallest (number (r .answer)) (refusals (lent self (now (committed .entry)) (now (pending .entry))) (Rule.Write core object value)) × (values (r .answer) ≡ values (Rule.write (lent self (now (committed .entry)) (now (pending .entry))) core object value .answer)) ⌝ }
     {
-        if is_sound(self) {
-            if tables_fit(self.cores, self.objects, committed.len(), pending.len()) {
-                access::write(self, core, object, value, committed, pending)
-            } else {
-                Outcome {
-                    answer: Answer::Refused(3),
-                    machine: self,
-                }
-            }
-        } else {
-            Outcome {
+        if !is_sound(self) {
+            return Outcome {
                 answer: Answer::Refused(2),
                 machine: self,
-            }
+            };
         }
+        if !tables_fit(self.cores, self.objects, committed.len(), pending.len()) {
+            return Outcome {
+                answer: Answer::Refused(3),
+                machine: self,
+            };
+        }
+        access::write(self, core, object, value, committed, pending)
     }
 
     // The transaction commits, with the count of setbacks, or waits for one ahead of it, or is told that it was set back. 2 unsound
@@ -265,21 +259,19 @@ impl Machine {
         ensures waits { λ r. ⌜ ((e : ℕ) → r .answer ≡ Waits e → Rule.contender self core e ≡ true) ⌝ }
         ensures paper { λ r. ⌜ Smallest (number (r .answer)) (refusals (lent self (now (committed .entry)) (now (pending .entry))) (Rule.Commit core)) × (values (r .answer) ≡ values (Rule.commit (named (r .answer)) (lent self (now (committed .entry)) (now (pending .entry))) core .answer)) ⌝ }
     {
-        if is_sound(self) {
-            if tables_fit(self.cores, self.objects, committed.len(), pending.len()) {
-                commit::commit(self, core, committed, pending)
-            } else {
-                Outcome {
-                    answer: Answer::Refused(3),
-                    machine: self,
-                }
-            }
-        } else {
-            Outcome {
+        if !is_sound(self) {
+            return Outcome {
                 answer: Answer::Refused(2),
                 machine: self,
-            }
+            };
         }
+        if !tables_fit(self.cores, self.objects, committed.len(), pending.len()) {
+            return Outcome {
+                answer: Answer::Refused(3),
+                machine: self,
+            };
+        }
+        commit::commit(self, core, committed, pending)
     }
 
     // The transaction ends without effect: 2 unsound record, 4 no such core, 9 none in progress. Refused, the record comes back as
@@ -288,14 +280,13 @@ impl Machine {
         ensures rule { λ r. ⌜ r ≡ Rule.giveUp self core ⌝ }
         ensures paper { λ r. ⌜ Smallest (number (r .answer)) (refusals (lent self [] []) (Rule.GiveUp core)) × (values (r .answer) ≡ values (Rule.giveUp self core .answer)) ⌝ }
     {
-        if is_sound(self) {
-            transaction::give_up(self, core)
-        } else {
-            Outcome {
+        if !is_sound(self) {
+            return Outcome {
                 answer: Answer::Refused(2),
                 machine: self,
-            }
+            };
         }
+        transaction::give_up(self, core)
     }
 
     // The running job leaves the list, the others keep their order; its number is the answer. 2 unsound record, 4 no such core, 7
@@ -304,13 +295,12 @@ impl Machine {
         ensures rule { λ r. ⌜ r ≡ Rule.finish self core ⌝ }
         ensures paper { λ r. ⌜ Smallest (number (r .answer)) (refusals (lent self [] []) (Rule.Finish core)) × (values (r .answer) ≡ values (Rule.finish self core .answer)) ⌝ }
     {
-        if is_sound(self) {
-            jobs::finish(self, core)
-        } else {
-            Outcome {
+        if !is_sound(self) {
+            return Outcome {
                 answer: Answer::Refused(2),
                 machine: self,
-            }
+            };
         }
+        jobs::finish(self, core)
     }
 }

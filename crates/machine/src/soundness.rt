@@ -196,13 +196,12 @@ fn versions_bounded(m: Machine) -> bool
     let mut d: usize = 0;
     while d < 64 {
         let v = versions[d];
-        if m.commits < v {
-            return false;
-        }
-        if objects <= d {
-            if v != 0 {
+        if d < objects {
+            if m.commits < v {
                 return false;
             }
+        } else if v != 0 {
+            return false;
         }
         d += 1;
     }
@@ -236,20 +235,23 @@ fn aborts_bounded(m: Machine, ticket: u32, aborts: u8) -> bool
     aborts as usize + n < m.cores as usize
 }
 
-// Whether the ticket differs from those in progress on the cores before core c.
+// Whether the ticket differs from those in progress on the cores before core c. The loop goes over all 16: with a constant bound the
+// compiler makes no copy of the record here.
 fn ticket_differs(m: Machine, c: usize, ticket: u32) -> bool
     requires { ⌜ c < 16 ⌝ }
     ensures { λ r. ⌜ r ≡ each c (λ e. coreAt m e .active ⇒ not (eqb ticket (coreAt m e .ticket))) ⌝ }
 {
-    let mut e: usize = 0;
-    while e < c {
-        let k = m.core[e];
-        if k.active {
-            if ticket == k.ticket {
-                return false;
+    let mut other: usize = 0;
+    while other < 16 {
+        let k = m.core[other];
+        if other < c {
+            if k.active {
+                if ticket == k.ticket {
+                    return false;
+                }
             }
         }
-        e += 1;
+        other += 1;
     }
     true
 }

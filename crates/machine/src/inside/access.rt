@@ -52,30 +52,29 @@ pub fn read(mut m: Machine, core: u32, object: u32, committed: &[u32], pending: 
     let c = core as usize;
     let d = object as usize;
     let mut k = m.core[c];
-    if k.active {
-        if k.zombie {
-            return tell(m, c);
-        }
-        k.reads = objset::insert(k.reads, d);
-        m.core[c] = k;
-        let version = m.versions[d];
-        if objset::contains(k.writes, d) {
-            let at = slot(c, m.objects as usize, d);
-            let own = pending[at];
-            Outcome {
-                answer: Answer::Value(own, version),
-                machine: m,
-            }
-        } else {
-            let shared = committed[d];
-            Outcome {
-                answer: Answer::Value(shared, version),
-                machine: m,
-            }
+    if !k.active {
+        return Outcome {
+            answer: Answer::Refused(9),
+            machine: m,
+        };
+    }
+    if k.zombie {
+        return tell(m, c);
+    }
+    k.reads = objset::insert(k.reads, d);
+    m.core[c] = k;
+    let version = m.versions[d];
+    if objset::contains(k.writes, d) {
+        let at = slot(c, m.objects as usize, d);
+        let own = pending[at];
+        Outcome {
+            answer: Answer::Value(own, version),
+            machine: m,
         }
     } else {
+        let shared = committed[d];
         Outcome {
-            answer: Answer::Refused(9),
+            answer: Answer::Value(shared, version),
             machine: m,
         }
     }
@@ -109,22 +108,21 @@ pub fn write(
     let c = core as usize;
     let d = object as usize;
     let mut k = m.core[c];
-    if k.active {
-        if k.zombie {
-            return tell(m, c);
-        }
-        k.writes = objset::insert(k.writes, d);
-        m.core[c] = k;
-        let at = slot(c, m.objects as usize, d);
-        pending[at] = value;
-        Outcome {
-            answer: Answer::Written,
-            machine: m,
-        }
-    } else {
-        Outcome {
+    if !k.active {
+        return Outcome {
             answer: Answer::Refused(9),
             machine: m,
-        }
+        };
+    }
+    if k.zombie {
+        return tell(m, c);
+    }
+    k.writes = objset::insert(k.writes, d);
+    m.core[c] = k;
+    let at = slot(c, m.objects as usize, d);
+    pending[at] = value;
+    Outcome {
+        answer: Answer::Written,
+        machine: m,
     }
 }

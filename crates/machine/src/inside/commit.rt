@@ -15,7 +15,7 @@ ghost use Rattle.machine.specs.Record.{noCore, coreAt, dataSet};
 ghost use Rattle.machine.specs.Sound.{sound};
 ghost use Rattle.machine.specs.Answers.{named};
 ghost use Rattle.machine.specs.Inside.{Fine};
-ghost use Rattle.machine.specs.Rule.{lent, left, conflict, contender, aborted, cleared, changed, through};
+ghost use Rattle.machine.specs.Rule.{lent, left, conflict, contender, blocked, aborted, cleared, changed, through};
 ghost use Rattle.machine.specs.Rule.{commit as commitRule};
 
 // Whether two transactions conflict: the write set of either meets the data set of the other.
@@ -39,6 +39,33 @@ fn holds_back(b: Core, a: Core) -> bool
         return false;
     }
     false
+}
+
+// Who holds a transaction back from its commit.
+enum Blocker {
+    Nobody,
+    // a core
+    By(u8),
+}
+
+// A core that holds the transaction of core c back: it has a conflicting transaction with a smaller ticket. Nobody, if no core has.
+fn blocked_by(m: Machine, c: usize) -> Blocker
+    requires { ⌜ sound m ≡ true ⌝ }
+    requires { ⌜ c < m .cores ⌝ }
+    ensures someone { λ r. ⌜ ((e : ℕ) → r ≡ Blocker.By e → (e < m .cores) × (contender m c e ≡ true)) ⌝ }
+    ensures nobody { λ r. ⌜ (r ≡ Blocker.Nobody → blocked m c ≡ false) ⌝ }
+{
+    let cores = m.core;
+    let own = cores[c];
+    let mut e: u8 = 0;
+    while e < m.cores {
+        let other = cores[e as usize];
+        if holds_back(other, own) {
+            return Blocker::By(e);
+        }
+        e += 1;
+    }
+    Blocker::Nobody
 }
 
 // Whether another's commit of the write set ws strikes core k: it has a transaction whose data set meets ws.
@@ -119,10 +146,10 @@ fn carry_through(m: Machine, c: usize, committed: &mut [u32], pending: &[u32]) -
     } ≡ through (record { machine = m; committed = now (committed .entry); pending = now (pending .entry) }) c ⌝ }
 {
     let objects = m.objects as usize;
-    let own = m.core[c];
+    let cores = m.core;
+    let own = cores[c];
     let mut versions = m.versions;
     write_back(own.writes, c * objects, committed, pending, &mut versions);
-    let cores = m.core;
     let core = cores_after(cores, m.cores as usize, c, own.writes);
     let commits = m.commits + 1;
     Outcome {
@@ -156,26 +183,21 @@ pub fn commit(m: Machine, core: u32, committed: &mut [u32], pending: &mut [u32])
     }
     let c = core as usize;
     let k = m.core[c];
-    if k.active {
-        if k.zombie {
-            return tell(m, c);
-        }
-        let mut e: u8 = 0;
-        while e < m.cores {
-            let other = m.core[e as usize];
-            if holds_back(other, k) {
-                return Outcome {
-                    answer: Answer::Waits(e),
-                    machine: m,
-                };
-            }
-            e += 1;
-        }
-        carry_through(m, c, committed, pending)
-    } else {
-        Outcome {
+    if !k.active {
+        return Outcome {
             answer: Answer::Refused(9),
             machine: m,
-        }
+        };
     }
+    if k.zombie {
+        return tell(m, c);
+    }
+    let blocker = blocked_by(m, c);
+    if let Blocker::By(e) = blocker {
+        return Outcome {
+            answer: Answer::Waits(e),
+            machine: m,
+        };
+    }
+    carry_through(m, c, committed, pending)
 }

@@ -92,17 +92,16 @@ pub fn give_up(mut m: Machine, core: u32) -> Outcome
     }
     let c = core as usize;
     let k = m.core[c];
-    if k.active {
-        m.give_ups = m.give_ups + 1;
-        m.core[c] = without_transaction(k);
-        Outcome {
-            answer: Answer::Ended,
-            machine: m,
-        }
-    } else {
-        Outcome {
+    if !k.active {
+        return Outcome {
             answer: Answer::Refused(9),
             machine: m,
-        }
+        };
+    }
+    m.give_ups = m.give_ups + 1;
+    m.core[c] = without_transaction(k);
+    Outcome {
+        answer: Answer::Ended,
+        machine: m,
     }
 }

@@ -1,9 +1,10 @@
 -- `machine::Machine::begin` meets its contract: an unsound record is refused, any other goes to the inside function. Assumes nothing.
-use mathlib.Core.Path.{sym, ap, _∙_}
+use mathlib.Core.Path.{ap}
 use mathlib.Core.List.{[]}
 use borrow.Author.Needs.{needs}
 use Rattle.machine.specs.Rule.{lent, rule, Begin}
 use Rattle.machine.proofs.Refusals.{smallest-given}
+use Rattle.machine.proofs.TestLaws.{holds, breaks}
 use Rattle.machine.proofs.DoorLaws.{unsound-refused}
 use Rattle.machine.proofs.Told.{told, handed}
 use Rattle.machine.proofs.Machine.begin.Statement.{statement}
@@ -12,18 +13,18 @@ use Rattle.machine.proofs.Machine.begin.Tie as tie
 is-sound-requires : tie.Need-is-sound-requires
 is-sound-requires c κs = search needs
 
-begin-requires : tie.Need-begin-requires
-begin-requires c κs = sym (c .before .is-sound .ensures) ∙ c .if1 .taken
-
 returns : tie.Need-returns
 unfolding rule
-returns c = told (smallest-given 0 (lent _ [] []) (Begin _)) (c .begin .ensures)
+returns c =
+    told (smallest-given 0 (lent _ [] []) (Begin _))
+    (ap handed (unsound-refused 0 (lent _ [] []) (Begin _) (breaks (c .before .is-sound .ensures) (c .if1 .taken))))
+
+begin-requires : tie.Need-begin-requires
+begin-requires c κs = holds (c .before .is-sound .ensures) (c .if1 .left)
 
 returns-2 : tie.Need-returns-2
 unfolding rule
-returns-2 c =
-    told (smallest-given 0 (lent _ [] []) (Begin _))
-    (ap handed (unsound-refused 0 (lent _ [] []) (Begin _) (sym (c .before .is-sound .ensures) ∙ c .if1 .left)))
+returns-2 c = told (smallest-given 0 (lent _ [] []) (Begin _)) (c .begin .ensures)
 
 pub begin-spec : {M : Type 1} → statement M
-begin-spec = tie.close (tie.spec is-sound-requires begin-requires returns returns-2)
+begin-spec = tie.close (tie.spec is-sound-requires returns begin-requires returns-2)

@@ -1,8 +1,9 @@
 -- `machine::Machine::read` meets its contract: an unsound record and a table of another length are refused, the rest goes to the inside function. Assumes nothing.
-use mathlib.Core.Path.{refl, sym, _∙_}
+use mathlib.Core.Path.{refl}
 use borrow.Author.Needs.{needs}
 use Rattle.machine.specs.Rule.{rule, Read}
 use Rattle.machine.proofs.Refusals.{smallest-given}
+use Rattle.machine.proofs.TestLaws.{holds, breaks}
 use Rattle.machine.proofs.DoorLaws.{unsound-refused, misfit-refused, fine-of}
 use Rattle.machine.proofs.Told.{lent-told}
 use Rattle.machine.proofs.Machine.read.Statement.{statement}
@@ -11,15 +12,28 @@ use Rattle.machine.proofs.Machine.read.Tie as tie
 is-sound-requires : tie.Need-is-sound-requires
 is-sound-requires c κs = search needs
 
+returns : tie.Need-returns
+unfolding rule
+returns c =
+    lent-told (smallest-given 0 _ (Read _ _)) (unsound-refused 0 _ (Read _ _) (breaks (c .before .is-sound .ensures) (c .if1 .taken)))
+
 tables-fit-requires : tie.Need-tables-fit-requires
 tables-fit-requires c κs = search needs
 
+returns-2 : tie.Need-returns-2
+unfolding rule
+returns-2 c =
+    let fit = c .before in
+    let else1 = fit .before in
+    lent-told (smallest-given 0 _ (Read _ _))
+    (misfit-refused 0 _ (Read _ _) refl (holds (else1 .before .is-sound .ensures) (else1 .if1 .left)) (breaks (fit .tables-fit .ensures) (c .if2 .taken)))
+
 read-requires : tie.Need-read-requires
 read-requires c κs =
-    let then2 = c .before .before in
-    let fit = then2 .before in
-    let then1 = fit .before in
-    fine-of _ (sym (then1 .before .is-sound .ensures) ∙ then1 .if1 .taken) (sym (fit .tables-fit .ensures) ∙ then2 .if2 .taken)
+    let else2 = c .before .before in
+    let fit = else2 .before in
+    let else1 = fit .before in
+    fine-of _ (holds (else1 .before .is-sound .ensures) (else1 .if1 .left)) (holds (fit .tables-fit .ensures) (else2 .if2 .left))
 
 same-length : tie.Need-same-length
 same-length c = search needs
@@ -27,25 +41,11 @@ same-length c = search needs
 same-length-2 : tie.Need-same-length-2
 same-length-2 c = search needs
 
-returns : tie.Need-returns
-unfolding rule
-returns c = lent-told (smallest-given 0 _ (Read _ _)) (c .read .ensures)
-
-returns-2 : tie.Need-returns-2
-unfolding rule
-returns-2 c =
-    let fit = c .before in
-    let then1 = fit .before in
-    lent-told (smallest-given 0 _ (Read _ _))
-    (misfit-refused 0 _ (Read _ _) refl (sym (then1 .before .is-sound .ensures) ∙ then1 .if1 .taken) (sym (fit .tables-fit .ensures) ∙ c .if2 .left))
-
 returns-3 : tie.Need-returns-3
 unfolding rule
-returns-3 c =
-    lent-told (smallest-given 0 _ (Read _ _))
-    (unsound-refused 0 _ (Read _ _) (sym (c .before .is-sound .ensures) ∙ c .if1 .left))
+returns-3 c = lent-told (smallest-given 0 _ (Read _ _)) (c .read .ensures)
 
 pub read-spec : {M : Type 1} → statement M
 read-spec =
     tie.close
-    (tie.spec is-sound-requires tables-fit-requires read-requires same-length same-length-2 returns returns-2 returns-3)
+    (tie.spec is-sound-requires returns tables-fit-requires returns-2 read-requires same-length same-length-2 returns-3)

@@ -1,11 +1,12 @@
 -- `machine::inside::access::read` meets its contract. Assumes nothing.
-use mathlib.Core.Path.{_≡_, _∙_, sym, ap}
+use mathlib.Core.Path.{refl, _∙_}
 use Prim.Native.Nat.{_<_}
 use native.Mathlib.Omega.{arith}
 use borrow.Author.Needs.{needs}
 use Rattle.machine.specs.Rule.{told, valued}
 use Rattle.machine.proofs.Facts.{stands, core-place, object-place}
 use Rattle.machine.proofs.Run.Places.{slot-inside}
+use Rattle.machine.proofs.TestLaws.{holds, breaks}
 use Rattle.machine.proofs.AccessLaws.{read-no-core, read-no-object, read-none, read-told, read-valued, value-own, value-other}
 use Rattle.machine.proofs.inside.access.read.Statement.{statement}
 use Rattle.machine.proofs.inside.access.read.Tie as tie
@@ -35,22 +36,29 @@ element-copy-out-k c =
     let start = else1 .before .before .before in
     core-place _ (start .pre .is-sound) _ (else1 .if1 .left)
 
-tell-requires : tie.Need-tell-requires
-tell-requires c κs =
+returns-3 : tie.Need-returns-3
+returns-3 c =
     let else2 = c .before .before .before in
     let else1 = else2 .before in
     let start = else1 .before .before .before in
+    read-none _ _ _ (start .pre) (else1 .if1 .left) (else2 .if2 .left) (breaks refl (c .if3 .taken))
+
+tell-requires : tie.Need-tell-requires
+tell-requires c κs =
+    let else1 = c .before .before .before .before .before in
+    let start = else1 .before .before .before in
     core-place _ (start .pre .is-sound) _ (else1 .if1 .left)
 
-returns-3 : tie.Need-returns-3
+returns-4 : tie.Need-returns-4
 unfolding told
-returns-3 c =
+returns-4 c =
     let then4 = c .before in
-    let then3 = then4 .before in
-    let else2 = then3 .before .before in
+    let else3 = then4 .before in
+    let else2 = else3 .before .before .before in
     let else1 = else2 .before in
     let start = else1 .before .before .before in
-    rw (c .tell .ensures) (read-told _ _ _ (start .pre) (else1 .if1 .left) (else2 .if2 .left) (then3 .if3 .taken) (then4 .if4 .taken))
+    rw (c .tell .ensures)
+    (read-told _ _ _ (start .pre) (else1 .if1 .left) (else2 .if2 .left) (holds refl (else3 .if3 .left)) (then4 .if4 .taken))
 
 insert-requires : tie.Need-insert-requires
 insert-requires c κs = search needs
@@ -60,8 +68,8 @@ mul-k-2 c = search needs
 
 element-set-from-k : tie.Need-element-set-from-k
 element-set-from-k c =
-    let then3 = c .before .before in
-    let else2 = then3 .before .before in
+    let else3 = c .before .before in
+    let else2 = else3 .before .before .before in
     let else1 = else2 .before in
     let start = else1 .before .before .before in
     core-place _ (start .pre .is-sound) _ (else1 .if1 .left)
@@ -71,8 +79,8 @@ mul-version c = search needs
 
 element-copy-out-version : tie.Need-element-copy-out-version
 element-copy-out-version c =
-    let then3 = c .before .before in
-    let else2 = then3 .before .before in
+    let else3 = c .before .before in
+    let else2 = else3 .before .before .before in
     let else1 = else2 .before in
     let start = else1 .before .before .before in
     object-place _ (start .pre .is-sound) _ (else2 .if2 .left)
@@ -85,8 +93,8 @@ cast-slot c = search needs
 
 slot-requires : tie.Need-slot-requires
 slot-requires c κs =
-    let then3 = c .before .before .before .before .before in
-    let else2 = then3 .before .before in
+    let else3 = c .before .before .before .before .before in
+    let else2 = else3 .before .before .before in
     let else1 = else2 .before in
     let start = else1 .before .before .before in (
       core-place _ (start .pre .is-sound) _ (else1 .if1 .left),
@@ -99,8 +107,8 @@ mul-own c = omega (arith, c .slot .ensures .1)
 
 shared-slice-read-own : tie.Need-shared-slice-read-own
 shared-slice-read-own c =
-    let then3 = c .before .before .before .before .before .before .before in
-    let else2 = then3 .before .before in
+    let else3 = c .before .before .before .before .before .before .before in
+    let else2 = else3 .before .before .before in
     let else1 = else2 .before in
     let start = else1 .before .before .before in
     rw (c .before .slot .ensures .0, start .pre .pending-long) (slot-inside _ _ _ _ (else1 .if1 .left) (else2 .if2 .left))
@@ -111,38 +119,31 @@ mul-shared c = search needs
 shared-slice-read-shared : tie.Need-shared-slice-read-shared
 shared-slice-read-shared c = search needs
 
-returns-4 : tie.Need-returns-4
-returns-4 c =
+returns-5 : tie.Need-returns-5
+returns-5 c =
     let then5 = c .before .before in
     let insert = then5 .before .before .before in
     let else4 = insert .before in
-    let then3 = else4 .before in
-    let else2 = then3 .before .before in
+    let else3 = else4 .before in
+    let else2 = else3 .before .before .before in
     let else1 = else2 .before in
     let start = else1 .before .before .before in
     rw (c .before .slot .ensures .0, insert .insert .ensures)
     (value-own _ _ _ (start .pre) _ (then5 .before .contains .ensures) (then5 .if5 .taken)
-    ∙ read-valued _ _ _ (start .pre) (else1 .if1 .left) (else2 .if2 .left) (then3 .if3 .taken) (else4 .if4 .left))
+    ∙ read-valued _ _ _ (start .pre) (else1 .if1 .left) (else2 .if2 .left) (holds refl (else3 .if3 .left)) (else4 .if4 .left))
 
-returns-5 : tie.Need-returns-5
-returns-5 c =
+returns-6 : tie.Need-returns-6
+returns-6 c =
     let else5 = c .before in
     let insert = else5 .before .before .before in
     let else4 = insert .before in
-    let then3 = else4 .before in
-    let else2 = then3 .before .before in
+    let else3 = else4 .before in
+    let else2 = else3 .before .before .before in
     let else1 = else2 .before in
     let start = else1 .before .before .before in
     rw (insert .insert .ensures)
     (value-other _ _ _ (start .pre) _ (else5 .before .contains .ensures) (else5 .if5 .left)
-    ∙ read-valued _ _ _ (start .pre) (else1 .if1 .left) (else2 .if2 .left) (then3 .if3 .taken) (else4 .if4 .left))
-
-returns-6 : tie.Need-returns-6
-returns-6 c =
-    let else2 = c .before .before in
-    let else1 = else2 .before in
-    let start = else1 .before .before .before in
-    read-none _ _ _ (start .pre) (else1 .if1 .left) (else2 .if2 .left) (c .if3 .left)
+    ∙ read-valued _ _ _ (start .pre) (else1 .if1 .left) (else2 .if2 .left) (holds refl (else3 .if3 .left)) (else4 .if4 .left))
 
 pub read-spec : {M : Type 1} → statement M
 read-spec =
@@ -154,8 +155,9 @@ read-spec =
     returns-2
     mul-k
     element-copy-out-k
-    tell-requires
     returns-3
+    tell-requires
+    returns-4
     insert-requires
     mul-k-2
     element-set-from-k
@@ -168,6 +170,5 @@ read-spec =
     shared-slice-read-own
     mul-shared
     shared-slice-read-shared
-    returns-4
     returns-5
     returns-6)

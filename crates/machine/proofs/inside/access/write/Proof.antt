@@ -1,10 +1,11 @@
 -- `machine::inside::access::write` meets its contract. Assumes nothing.
-use mathlib.Core.Path.{_≡_, _∙_}
+use mathlib.Core.Path.{refl}
 use native.Mathlib.Omega.{arith}
 use borrow.Author.Needs.{needs}
 use Rattle.machine.specs.Rule.{told, written}
 use Rattle.machine.proofs.Facts.{stands, core-place, object-place}
 use Rattle.machine.proofs.Run.Places.{slot-inside}
+use Rattle.machine.proofs.TestLaws.{holds, breaks}
 use Rattle.machine.proofs.AccessLaws.{write-no-core, write-no-object, write-none, write-told, write-written}
 use Rattle.machine.proofs.inside.access.write.Statement.{statement}
 use Rattle.machine.proofs.inside.access.write.Tie as tie
@@ -33,23 +34,29 @@ element-copy-out-k c =
     let start = else1 .before .before .before in
     core-place _ (start .pre .is-sound) _ (else1 .if1 .left)
 
-tell-requires : tie.Need-tell-requires
-tell-requires c κs =
+returns-3 : tie.Need-returns-3
+returns-3 c =
     let else2 = c .before .before .before in
     let else1 = else2 .before in
     let start = else1 .before .before .before in
+    write-none _ _ _ (start .pre) _ (else1 .if1 .left) (else2 .if2 .left) (breaks refl (c .if3 .taken))
+
+tell-requires : tie.Need-tell-requires
+tell-requires c κs =
+    let else1 = c .before .before .before .before .before in
+    let start = else1 .before .before .before in
     core-place _ (start .pre .is-sound) _ (else1 .if1 .left)
 
-returns-3 : tie.Need-returns-3
+returns-4 : tie.Need-returns-4
 unfolding told
-returns-3 c =
+returns-4 c =
     let then4 = c .before in
-    let then3 = then4 .before in
-    let else2 = then3 .before .before in
+    let else3 = then4 .before in
+    let else2 = else3 .before .before .before in
     let else1 = else2 .before in
     let start = else1 .before .before .before in
     rw (c .tell .ensures)
-    (write-told _ _ _ (start .pre) _ (else1 .if1 .left) (else2 .if2 .left) (then3 .if3 .taken) (then4 .if4 .taken))
+    (write-told _ _ _ (start .pre) _ (else1 .if1 .left) (else2 .if2 .left) (holds refl (else3 .if3 .left)) (then4 .if4 .taken))
 
 insert-requires : tie.Need-insert-requires
 insert-requires c κs = search needs
@@ -59,8 +66,8 @@ mul-k-2 c = search needs
 
 element-set-from-k : tie.Need-element-set-from-k
 element-set-from-k c =
-    let then3 = c .before .before in
-    let else2 = then3 .before .before in
+    let else3 = c .before .before in
+    let else2 = else3 .before .before .before in
     let else1 = else2 .before in
     let start = else1 .before .before .before in
     core-place _ (start .pre .is-sound) _ (else1 .if1 .left)
@@ -70,8 +77,8 @@ cast-slot c = search needs
 
 slot-requires : tie.Need-slot-requires
 slot-requires c κs =
-    let then3 = c .before .before in
-    let else2 = then3 .before .before in
+    let else3 = c .before .before in
+    let else2 = else3 .before .before .before in
     let else1 = else2 .before in
     let start = else1 .before .before .before in (
       core-place _ (start .pre .is-sound) _ (else1 .if1 .left),
@@ -84,8 +91,8 @@ mul-pending c = omega (arith, c .slot .ensures .1)
 
 slice-write-pending : tie.Need-slice-write-pending
 slice-write-pending c =
-    let then3 = c .before .before .before in
-    let else2 = then3 .before .before in
+    let else3 = c .before .before .before in
+    let else2 = else3 .before .before .before in
     let else1 = else2 .before in
     let start = else1 .before .before .before in
     rw (c .slot .ensures .0, start .pre .pending-long) (slot-inside _ _ _ _ (else1 .if1 .left) (else2 .if2 .left))
@@ -93,24 +100,17 @@ slice-write-pending c =
 same-length : tie.Need-same-length
 same-length c = search needs
 
-returns-4 : tie.Need-returns-4
+returns-5 : tie.Need-returns-5
 unfolding written
-returns-4 c =
+returns-5 c =
     let insert = c .before in
     let else4 = insert .before in
-    let then3 = else4 .before in
-    let else2 = then3 .before .before in
+    let else3 = else4 .before in
+    let else2 = else3 .before .before .before in
     let else1 = else2 .before in
     let start = else1 .before .before .before in
     rw (c .slot .ensures .0, insert .insert .ensures)
-    (write-written _ _ _ (start .pre) _ (else1 .if1 .left) (else2 .if2 .left) (then3 .if3 .taken) (else4 .if4 .left))
-
-returns-5 : tie.Need-returns-5
-returns-5 c =
-    let else2 = c .before .before in
-    let else1 = else2 .before in
-    let start = else1 .before .before .before in
-    write-none _ _ _ (start .pre) _ (else1 .if1 .left) (else2 .if2 .left) (c .if3 .left)
+    (write-written _ _ _ (start .pre) _ (else1 .if1 .left) (else2 .if2 .left) (holds refl (else3 .if3 .left)) (else4 .if4 .left))
 
 pub write-spec : {M : Type 1} → statement M
 write-spec =
@@ -122,8 +122,9 @@ write-spec =
     returns-2
     mul-k
     element-copy-out-k
-    tell-requires
     returns-3
+    tell-requires
+    returns-4
     insert-requires
     mul-k-2
     element-set-from-k
@@ -132,5 +133,4 @@ write-spec =
     mul-pending
     slice-write-pending
     same-length
-    returns-4
     returns-5)

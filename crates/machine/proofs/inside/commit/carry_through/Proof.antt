@@ -13,21 +13,21 @@ cast-objects c = search needs
 mul-own : tie.Need-mul-own
 mul-own c = search needs
 
-element-copy-out-own : tie.Need-element-copy-out-own
-element-copy-out-own c = core-place _ (c .before .before .pre .0) _ (c .before .before .pre .1 .0)
+array-copy-out-own : tie.Need-array-copy-out-own
+array-copy-out-own c = let start = c .before .before .before .before in core-place _ (start .pre .0) _ (start .pre .1 .0)
 
 mul-write-back : tie.Need-mul-write-back
 mul-write-back c =
-    let start = c .before .before .before .before in
-    omega (arith, row-within (start .args .c) (start .args .t1 .cores) (start .args .t1 .objects) (start .pre .1 .0))
+    let start = c .before .before .before .before .before .before in
+    omega (arith, row-within (start .args .c) (start .args .m .cores) (start .args .m .objects) (start .pre .1 .0))
 
 slice-aggregate-write-back : tie.Need-slice-aggregate-write-back
 slice-aggregate-write-back c = search needs
 
 write-back-requires : tie.Need-write-back-requires
 write-back-requires c κs =
-    let start = c .before .before .before .before .before .before in
-    let m = start .args .t1 in (
+    let start = c .before .before .before .before .before .before .before .before in
+    let m = start .args .m in (
       omega (arith, row-within (start .args .c) (m .cores) (m .objects) (start .pre .1 .0)),
       versions-ready m (start .pre .0) (start .args .c) _ (start .pre .1 .0) (start .pre .1 .1 .0) (start .pre .1 .1 .1 .0) (search needs) (omega arith),
     )
@@ -37,16 +37,16 @@ cast-cores-after c = search needs
 
 cores-after-requires : tie.Need-cores-after-requires
 cores-after-requires c κs =
-    let start = c .before .before .before .before .before .before .before .before .before .before .before in
-    let m = start .args .t1 in (
+    let start = c .before .before .before .before .before .before .before .before .before .before .before .before .before in
+    let m = start .args .m in (
       stands m (start .pre .0) .few-cores,
       (start .pre .1 .0, (few-aborts m (start .pre .0), λ e l p. stands m (start .pre .0) .turns .lacked e l p)),
     )
 
 add-commits : tie.Need-add-commits
 add-commits c =
-    let start = c .before .before .before .before .before .before .before .before .before .before .before .before in
-    omega (arith, one-open (start .args .t1) (start .pre .0) (start .args .c) (start .pre .1 .0) (start .pre .1 .1 .0))
+    let start = c .before .before .before .before .before .before .before .before .before .before .before .before .before .before .before in
+    omega (arith, one-open (start .args .m) (start .pre .0) (start .args .c) (start .pre .1 .0) (start .pre .1 .1 .0))
 
 same-length : tie.Need-same-length
 same-length c = search needs
@@ -54,8 +54,8 @@ same-length c = search needs
 returns : tie.Need-returns
 unfolding through
 returns c =
-    let moved = c .before .before .before .before .before .write-back .ensures in
-    rw (c .cores-after .ensures, moved .1, moved .0)
+    let moved = c .before .before .before .before .before .before .write-back .ensures in
+    rw (c .before .cores-after .ensures, moved .1, moved .0)
 
 pub carry-through-spec : {M : Type 1} → statement M
 carry-through-spec =
@@ -63,7 +63,7 @@ carry-through-spec =
     (tie.spec
     cast-objects
     mul-own
-    element-copy-out-own
+    array-copy-out-own
     mul-write-back
     slice-aggregate-write-back
     write-back-requires
