@@ -73,8 +73,8 @@ extern "C" {
  *   - script and output do not overlap, and nobody else writes to either during the call;
  *   - CARDS_STACK_ENOUGH bytes of stack are left.
  *
- * The time grows with the script's length. Nothing is waited for. The script is run once to find the length of its listing and, if
- * that fits, a second time to write it. */
+ * The time grows with the script's length. Nothing is waited for. Into an output that is CARDS_OUTPUT_ENOUGH for its lines the script
+ * is run at once; for a smaller one it is run to find the length of its listing and, if that fits, a second time to write it. */
 size_t cards_run(const uint8_t *script, size_t script_length, uint8_t *output, size_t output_length);
 
 #ifdef __cplusplus

@@ -17,6 +17,7 @@ pub mod call;
 pub mod calls;
 pub mod checker;
 pub mod contended;
+mod fewest;
 pub mod listed_runs;
 pub mod machine;
 pub mod random;

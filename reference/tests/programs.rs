@@ -47,7 +47,8 @@ fn compare_finds_no_difference_in_the_reference() {
 /// The reference with its listing edited, as a shell command.
 fn compare_edited(edit: &str) -> String {
     let command = format!("\"$0\" | sed '{edit}'");
-    let arguments = ["--seed", "7", "--count", "150", "sh", "-c", &command, REFERENCE];
+    let arguments =
+        ["--trials", "2000", "--seed", "7", "--count", "150", "sh", "-c", &command, REFERENCE];
     let output = output(COMPARE, &arguments, b"");
     assert_eq!(output.status.code(), Some(1), "{edit}");
     text(&output)
@@ -57,6 +58,7 @@ fn compare_edited(edit: &str) -> String {
 fn compare_shows_the_shortest_script_of_a_wrong_answer() {
     let text = compare_edited("s/ready -/ready 0/");
     let expected = [
+        "fewest: every smaller choice was tried",
         "listing of the reference:",
         "  line answer value\\n",
         "  2 ready -\\n",
@@ -75,13 +77,15 @@ fn compare_shrinks_a_wrong_wait_to_few_lines() {
     let text = compare_edited("s/waits -/committed 0/");
     let shown = text.split("listing of the reference").next().expect("a script");
     // Names, setup, two jobs, two begins, two touches of a card, one commit.
-    assert_eq!(shown.lines().count(), 1 + 9, "{text}");
+    assert_eq!(shown.lines().count(), 1 + 9 + 1, "{text}");
+    assert!(text.contains("\nfound 9 lines; choices of "), "{text}");
+    assert!(text.contains(" lines and more were not all tried\n"), "{text}");
 }
 
 #[test]
 fn compare_shrinks_a_wrong_answer_to_empty_input() {
     let text = compare_edited("s/^1 refused 11/1 refused 12/");
-    assert!(text.contains("shortest script, 0 bytes"), "{text}");
+    assert!(text.contains("shortest script, 0 bytes:\nfewest: every smaller choice"), "{text}");
 }
 
 #[test]

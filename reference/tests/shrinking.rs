@@ -1,6 +1,17 @@
 //! The shrinker, on failures whose shortest script is known.
 
-use cards_reference::shrink::shrink;
+use cards_reference::shrink::{self, Budget, Shrunk};
+use std::time::Duration;
+
+/// The shrinker with so many trials.
+fn shrink_within(trials: usize, script: &[u8], fails: &mut dyn FnMut(&[u8]) -> bool) -> Shrunk {
+    shrink::shrink(script, Budget { trials, time: Duration::from_secs(60) }, fails)
+}
+
+/// The shortest script found.
+fn shrink(script: &[u8], fails: &mut dyn FnMut(&[u8]) -> bool) -> Vec<u8> {
+    shrink_within(100_000, script, fails).script
+}
 
 fn holds(script: &[u8], word: &str) -> bool {
     String::from_utf8_lossy(script).contains(word)
@@ -78,16 +89,65 @@ fn three_lines_that_only_go_together_are_cut() {
     assert_eq!(shrink(ALL_OR_NONE, &mut all_or_none), b"kkkk");
 }
 
-/// With 16 lines not every choice is tried.
+/// The same among 16 lines: the lines left are too many to try every choice of
+/// them first, but different choices of all lines are few.
 #[test]
-fn above_the_limit_three_lines_may_stay() {
+fn among_more_lines_they_are_cut_if_the_trials_are_enough() {
     let script = [ALL_OR_NONE, &b"x\n".repeat(9)].concat();
     let crosses =
         |script: &[u8]| script.split(|&byte| byte == b'\n').filter(|&l| l == b"x").count();
     let mut fails = |script: &[u8]| all_or_none(script) && crosses(script) == 9;
-    let shortest = shrink(&script, &mut fails);
-    assert!(fails(&shortest));
-    assert!(shortest.contains(&b'a'));
+    let fewest = shrink_within(10_000, &script, &mut fails);
+    assert!(fails(&fewest.script) && !fewest.script.contains(&b'a'));
+    assert!(fewest.is_fewest());
+    let stuck = shrink_within(100, &script, &mut fails);
+    assert!(fails(&stuck.script) && stuck.script.contains(&b'a'));
+    assert!(!stuck.is_fewest());
+}
+
+/// Two ways to fail: lines a, b and c are all there, or x and y are and none of
+/// a, b and c.
+fn two_ways(script: &[u8]) -> bool {
+    let lines: Vec<&[u8]> = script.split(|&byte| byte == b'\n').collect();
+    let there = |line: &&[u8]| lines.contains(line);
+    let (one, other): ([&[u8]; 3], [&[u8]; 2]) = ([b"a", b"b", b"c"], [b"x", b"y"]);
+    one.iter().all(there) || other.iter().all(there) && !one.iter().any(there)
+}
+
+/// Taking lines away while the rest fails leads to a, b and c, of which none
+/// can go.
+const TWO_WAYS: &[u8] = b"a\nx\nb\ny\nc\n";
+
+#[test]
+fn fewer_lines_are_found_among_those_cut_before() {
+    let shrunk = shrink_within(100, TWO_WAYS, &mut two_ways);
+    assert_eq!(shrunk.script, b"x\ny");
+    assert_eq!((shrunk.lines(), shrunk.tried_below, shrunk.is_fewest()), (2, 2, true));
+}
+
+/// The 1 + 5 choices of none and of one line are tried, the 10 of two are not.
+#[test]
+fn too_few_trials_are_owned_up_to() {
+    let shrunk = shrink_within(15, TWO_WAYS, &mut two_ways);
+    assert_eq!(shrunk.script, b"a\nb\nc");
+    assert_eq!((shrunk.lines(), shrunk.tried_below, shrunk.is_fewest()), (3, 2, false));
+    assert!(shrink_within(16, TWO_WAYS, &mut two_ways).is_fewest());
+}
+
+#[test]
+fn too_little_time_is_owned_up_to() {
+    let budget = Budget { trials: 100, time: Duration::ZERO };
+    let shrunk = shrink::shrink(TWO_WAYS, budget, &mut two_ways);
+    assert_eq!(shrunk.script, b"a\nb\nc");
+    assert_eq!((shrunk.tried_below, shrunk.is_fewest()), (0, false));
+}
+
+/// Of twenty equal lines there is one choice of each size.
+#[test]
+fn equal_choices_are_tried_once() {
+    let script = b"x\n".repeat(20);
+    let mut fails = |script: &[u8]| script.iter().filter(|&&byte| byte == b'x').count() == 20;
+    assert!(shrink_within(20, &script, &mut fails).is_fewest());
 }
 
 /// A script fails if its numbers sum up to 100, or to 60. No stretch, no line

@@ -1,1 +1,3 @@
 mod Kept
+mod Runs
+mod Steps

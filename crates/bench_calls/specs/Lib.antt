@@ -1,1 +1,2 @@
--- No definition of its own: the contracts cite the machine's. Assumes nothing.
+-- The definitions that the contracts cite, beside the machine's. Assumes nothing.
+pub mod Lists

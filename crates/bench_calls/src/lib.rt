@@ -1,5 +1,5 @@
 // Lists of calls on one machine, run through the public calls and through the inside functions, for bench/. A list is numbers: the
-// lower four bits say what is done, the rest is the core. Assumes nothing.
+// lower four bits say what is done, the rest is the core. What a list gives is specs/Lists.antt. Assumes nothing.
 use machine::Answer;
 use machine::Machine;
 use machine::Outcome;
@@ -7,8 +7,13 @@ use machine::inside::access;
 use machine::inside::commit;
 use machine::inside::jobs;
 use machine::inside::transaction;
-ghost use Rattle.machine.specs.Rule.{lent};
+ghost use mathlib.Core.Path.{_≡_};
+ghost use mathlib.Core.Bool.{cond};
+ghost use Rattle.machine.specs.declared.Answer.the-variants.{Ready, Refused};
+ghost use Rattle.machine.specs.Rule.{lent, setup as setupRule};
 ghost use Rattle.machine.specs.Inside.{Good};
+ghost use Rattle.machine.specs.Sound.{sound};
+ghost use Rattle.bench_calls.specs.Lists.{numberOf, door, inside, ready, run, doorRun, insideRun};
 
 // The calls of a list, beside SAVE, which keeps the record, and RESTORE, which goes back to the one kept.
 const SAVE: u32 = 0;
@@ -31,8 +36,10 @@ const GIVE_UP: u32 = 8;
 
 const FINISH: u32 = 9;
 
-// A number for an answer.
-fn number_of(answer: Answer) -> u32 {
+// A number for an answer; it does not show the core that waits names.
+fn number_of(answer: Answer) -> u32
+    ensures { λ r. ⌜ r ≡ numberOf answer ⌝ }
+{
     match answer {
         Answer::Ready => 1,
         Answer::Running => 2,
@@ -50,7 +57,9 @@ fn number_of(answer: Answer) -> u32 {
 }
 
 // The record as it is, tested.
-fn tested(m: Machine) -> Outcome {
+fn tested(m: Machine) -> Outcome
+    ensures { λ r. ⌜ r ≡ record { answer = cond (sound m) Ready (Refused 2); machine = m } ⌝ }
+{
     if m.sound() {
         Outcome {
             answer: Answer::Ready,
@@ -71,7 +80,10 @@ fn door_step(
     core: u32,
     committed: &mut [u32],
     pending: &mut [u32],
-) -> Outcome {
+) -> Outcome
+    ensures answer { λ r. ⌜ numberOf (r .answer) ≡ numberOf (door (lent m (now (committed .entry)) (now (pending .entry))) call core .answer) ⌝ }
+    ensures world { λ r. ⌜ lent (r .machine) (now (committed .exit)) (now (pending .exit)) ≡ door (lent m (now (committed .entry)) (now (pending .entry))) call core .world ⌝ }
+{
     if call == SETUP {
         return Machine::setup(m.cores as u32, m.objects as u32, committed, pending);
     }
@@ -108,7 +120,9 @@ fn inside_step(
     pending: &mut [u32],
 ) -> Outcome
     requires { ⌜ Good (lent m (now committed) (now pending)) ⌝ }
-    ensures { λ r. ⌜ Good (lent (r .machine) (now (committed .exit)) (now (pending .exit))) ⌝ }
+    ensures answer { λ r. ⌜ numberOf (r .answer) ≡ numberOf (inside (lent m (now (committed .entry)) (now (pending .entry))) call core .answer) ⌝ }
+    ensures world { λ r. ⌜ lent (r .machine) (now (committed .exit)) (now (pending .exit)) ≡ inside (lent m (now (committed .entry)) (now (pending .entry))) call core .world ⌝ }
+    ensures good { λ r. ⌜ Good (lent (r .machine) (now (committed .exit)) (now (pending .exit))) ⌝ }
 {
     if call == RELEASE {
         return jobs::release(m, core, 7, 100);
@@ -137,7 +151,8 @@ fn inside_step(
     }
 }
 
-// Runs the list through the public calls on a new machine of that many cores and cards; a number for the last answer.
+// Runs the list through the public calls on a new machine of that many cores and cards; a number for the last answer. The tables are
+// left as the calls leave them.
 #[no_mangle]
 pub extern "C" fn bench_calls_door(
     cores: u32,
@@ -145,7 +160,11 @@ pub extern "C" fn bench_calls_door(
     list: &[u32],
     committed: &mut [u32],
     pending: &mut [u32],
-) -> u32 {
+) -> u32
+    ensures number { λ r. ⌜ r ≡ doorRun (setupRule cores cards (now (committed .entry)) (now (pending .entry))) (now (list .entry)) .last ⌝ }
+    ensures committed { λ r. ⌜ now (committed .exit) ≡ doorRun (setupRule cores cards (now (committed .entry)) (now (pending .entry))) (now (list .entry)) .world .committed ⌝ }
+    ensures pending { λ r. ⌜ now (pending .exit) ≡ doorRun (setupRule cores cards (now (committed .entry)) (now (pending .entry))) (now (list .entry)) .world .pending ⌝ }
+{
     let o = Machine::setup(cores, cards, committed, pending);
     let mut m = o.machine;
     let mut kept = m;
@@ -171,6 +190,9 @@ pub extern "C" fn bench_calls_door(
 // Runs the list through the inside functions on a good world; a number for the last answer.
 fn inside_run(first: Machine, list: &[u32], committed: &mut [u32], pending: &mut [u32]) -> u32
     requires { ⌜ Good (lent first (now committed) (now pending)) ⌝ }
+    ensures number { λ r. ⌜ r ≡ run inside (ready (lent first (now (committed .entry)) (now (pending .entry)))) (now (list .entry)) .last ⌝ }
+    ensures committed { λ r. ⌜ now (committed .exit) ≡ run inside (ready (lent first (now (committed .entry)) (now (pending .entry)))) (now (list .entry)) .world .committed ⌝ }
+    ensures pending { λ r. ⌜ now (pending .exit) ≡ run inside (ready (lent first (now (committed .entry)) (now (pending .entry)))) (now (list .entry)) .world .pending ⌝ }
 {
     let mut m = first;
     let mut kept = first;
@@ -193,7 +215,8 @@ fn inside_run(first: Machine, list: &[u32], committed: &mut [u32], pending: &mut
     number_of(last)
 }
 
-// Runs the list through the inside functions on a new machine of that many cores and cards; a number for the last answer.
+// Runs the list through the inside functions on a new machine of that many cores and cards; a number for the last answer. If setup is
+// refused, nothing is run.
 #[no_mangle]
 pub extern "C" fn bench_calls_inside(
     cores: u32,
@@ -201,7 +224,11 @@ pub extern "C" fn bench_calls_inside(
     list: &[u32],
     committed: &mut [u32],
     pending: &mut [u32],
-) -> u32 {
+) -> u32
+    ensures number { λ r. ⌜ r ≡ insideRun (setupRule cores cards (now (committed .entry)) (now (pending .entry))) (now (list .entry)) .last ⌝ }
+    ensures committed { λ r. ⌜ now (committed .exit) ≡ insideRun (setupRule cores cards (now (committed .entry)) (now (pending .entry))) (now (list .entry)) .world .committed ⌝ }
+    ensures pending { λ r. ⌜ now (pending .exit) ≡ insideRun (setupRule cores cards (now (committed .entry)) (now (pending .entry))) (now (list .entry)) .world .pending ⌝ }
+{
     let o = Machine::setup(cores, cards, committed, pending);
     let answer = o.answer;
     if let Answer::Ready = answer {

@@ -25,6 +25,15 @@ output-after : (text out text′ : List ℕ) → wholeOrNone text out ≡ text�
 unfolding outputAfter
 output-after text out text′ e = rw e refl
 
+-- a listing for which the output surely has room
+pub has-room : (text out : List ℕ) → length text ≤ length out → (m : ℕ) (out′ : List ℕ) → m ≡ length text
+    → (m ≤ length out → out′ ≡ text ++ drop m out) → (m ≡ length (wholeOrNone text out)) × (out′ ≡ outputAfter text out)
+has-room text out room m out′ count put =
+    let all = whole text out room in (
+      count ∙ sym (ap length all),
+      put (omega (arith, room, count)) ∙ ap (λ (k : ℕ). text ++ drop k out) count ∙ sym (output-after text out text all),
+    )
+
 module _ (text out part : List ℕ) (no-byte : length part ≡ 0) (n : ℕ) (count : n ≡ length text) where
   same : part ++ out ≡ out
   same = ap (λ (x : List ℕ). x ++ out) (none part no-byte)
@@ -38,9 +47,5 @@ module _ (text out part : List ℕ) (no-byte : length part ≡ 0) (n : ℕ) (cou
   pub fits : n ≤ length (part ++ out) → (m : ℕ) (out′ : List ℕ) → m ≡ length text → (m ≤ length (part ++ out) → out′ ≡ text ++ drop m (part ++ out))
       → (m ≡ length (wholeOrNone text out)) × (out′ ≡ outputAfter text out)
   fits h m out′ count′ put =
-      let room : length text ≤ length out = omega (arith, h, ap length same, count) in
-      let all = whole text out room in (
-        count′ ∙ sym (ap length all),
-        put (omega (arith, h, count, count′)) ∙ ap (λ (x : List ℕ). text ++ drop m x) same
-            ∙ ap (λ (k : ℕ). text ++ drop k out) count′ ∙ sym (output-after text out text all),
-      )
+      has-room text out (omega (arith, h, ap length same, count)) m out′ count′
+      (λ room. put (omega (arith, room, ap length same)) ∙ ap (λ (x : List ℕ). text ++ drop m x) same)

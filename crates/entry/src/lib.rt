@@ -1,8 +1,10 @@
 // The C entry: a script in, its listing out (include/cards.h). Assumes nothing.
 ghost use mathlib.Core.Path.{_≡_};
 ghost use mathlib.Core.List.{List, _++_};
-ghost use Prim.Native.Nat.{ℕ, _+_, _≤_, _<_};
+ghost use Prim.Native.Nat.{ℕ, _+_, _*_, _≤_, _<_};
+ghost use lib.Dec.{leb};
 ghost use lib.ListN.{length, drop};
+ghost use Rattle.script.specs.Pieces.{lines};
 ghost use Rattle.runner.specs.Listing.{listing};
 ghost use Rattle.runner.specs.Runs.{EveryScript};
 ghost use Rattle.entry.specs.Fitting.{wholeOrNone, outputAfter};
@@ -13,17 +15,49 @@ const CHUNK: usize = 128;
 // Lists the script over the first bytes of the output and answers how many bytes that is. A listing that is longer than the output is
 // refused (12): the answer is 0 and the output is untouched. The claim about whole runs holds of every script: of the calls after each
 // accepted setup, with the answers that are listed (runner's specs/Runs.antt).
+//
+// An output that is enough for any script of as many lines is filled at once; for another, the script is run twice, first to see how
+// long its listing is.
 #[no_mangle]
 pub extern "C" fn cards_run(script: &[u8], output: &mut [u8]) -> usize
     ensures count { λ r. ⌜ r ≡ length (wholeOrNone (listing (now (script .entry))) (now (output .entry))) ⌝ }
     ensures bytes { λ _. ⌜ now (output .exit) ≡ outputAfter (listing (now (script .entry))) (now (output .entry)) ⌝ }
     ensures runs { λ _. ⌜ EveryScript ⌝ }
 {
+    if is_enough(output.len(), lines_of(script)) {
+        return list_into(script, output);
+    }
     let n = list_into(script, &mut output[..0]);
     if output.len() < n {
         return 0;
     }
     list_into(script, output)
+}
+
+// How many lines the script has, an empty one counted as one: a line begins at the start and after each newline but one at the end.
+fn lines_of(script: &[u8]) -> usize
+    ensures { λ r. ⌜ (1 ≤ r) × (length (lines (now (script .entry))) ≤ r) ⌝ }
+{
+    let mut n = 1;
+    let mut i = 1;
+    while i < script.len() {
+        let b = script[i - 1];
+        i += 1;
+        if b == b'\n' {
+            n += 1;
+        }
+    }
+    n
+}
+
+// Whether so many bytes are enough for the listing of any script of that many lines: 18, and 29 for each line.
+fn is_enough(bytes: usize, lines: usize) -> bool
+    ensures { λ r. ⌜ r ≡ leb (18 + 29 * lines) bytes ⌝ }
+{
+    if bytes < 18 {
+        return false;
+    }
+    lines <= (bytes - 18) / 29
 }
 
 // Where the chunk that begins at `at` ends.

@@ -50,7 +50,7 @@ pub enum Names {
 }
 
 // What the field of the call's name says.
-pub enum Verb {
+enum Verb {
     Setup,
     Release,
     Begin,
@@ -63,7 +63,7 @@ pub enum Verb {
 }
 
 // What stands in a field of a number.
-pub enum Field {
+enum Field {
     // `-`
     Unused,
     Number(u32),

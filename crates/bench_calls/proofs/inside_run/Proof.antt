@@ -1,13 +1,15 @@
--- `bench_calls::inside_run` meets its contract. The loop's invariant: both tables keep their length, and the world is good with
--- the record at hand and with the one kept. The measure is what is left of the list. Assumes nothing.
-use mathlib.Core.Path.{_≡_, _∙_}
+-- `bench_calls::inside_run` meets its contract. The loop's invariant: both tables keep their length, the world is good with
+-- the record at hand and with the one kept, and what is left of the list gives what the list gives. The measure is what is left of the list. Assumes nothing.
+use mathlib.Core.Path.{_≡_, refl, ap, _∙_}
 use Prim.Native.Nat.{_≤_, _-_}
 use native.Mathlib.Omega.{arith}
-use lib.ListN.{length}
+use lib.ListN.{length, drop}
 use borrow.Author.Needs.{needs}
 use Rattle.machine.specs.Rule.{lent}
 use Rattle.machine.specs.Inside.{Good}
+use Rattle.bench_calls.specs.Lists.{inside, State, run}
 use Rattle.bench_calls.proofs.Kept.{same-lengths}
+use Rattle.bench_calls.proofs.Runs.{state, saves, restores, calls, list-ends}
 use Rattle.bench_calls.proofs.inside_run.Statement.{statement}
 use Rattle.bench_calls.proofs.inside_run.Tie as tie
 
@@ -18,12 +20,13 @@ Inv-loop list committed₀ pending₀ m₀ kept₀ last₀ i₀ committed pendin
     × (length pending ≡ length pending₀)
     × Good (lent m committed pending)
     × Good (lent kept committed pending)
+    × (run inside (state last m committed pending kept) (drop i list) ≡ run inside (state last₀ m₀ committed₀ pending₀ kept₀) list)
 
 abbrev μ-loop : tie.MeasureT-loop
 μ-loop list committed₀ pending₀ m₀ kept₀ last₀ i₀ committed pending m kept last i = length list - i
 
 loop-holds : tie.Need-loop-holds Inv-loop μ-loop
-loop-holds c = search needs
+loop-holds c = let start = c .before .before .before in (omega arith, refl, refl, start .pre, start .pre, refl)
 
 mul-call : tie.Need-mul-call Inv-loop μ-loop
 mul-call c = search needs
@@ -44,13 +47,19 @@ loop-less : tie.Need-loop-less Inv-loop μ-loop
 loop-less c = search needs
 
 loop-again : tie.Need-loop-again Inv-loop μ-loop
-loop-again c = search needs
+loop-again c =
+    let test = c .before .before .before .loop-test .taken in
+    let inv = c .before .before .before .before .loop .inv in
+    (omega (arith, test), inv .1, inv .2, inv .3, inv .3, saves _ _ _ _ _ (inv .5) test (c .if1 .taken))
 
 loop-less-2 : tie.Need-loop-less-2 Inv-loop μ-loop
 loop-less-2 c = search needs
 
 loop-again-2 : tie.Need-loop-again-2 Inv-loop μ-loop
-loop-again-2 c = search needs
+loop-again-2 c =
+    let test = c .before .before .before .before .loop-test .taken in
+    let inv = c .before .before .before .before .before .loop .inv in
+    (omega (arith, test), inv .1, inv .2, inv .4, inv .4, restores _ _ _ _ _ (inv .5) test (c .if2 .taken))
 
 inside-step-requires : tie.Need-inside-step-requires Inv-loop μ-loop
 inside-step-requires c κs = search needs
@@ -61,10 +70,18 @@ loop-less-3 c = search needs
 loop-again-3 : tie.Need-loop-again-3 Inv-loop μ-loop
 loop-again-3 c =
     let done = c .before .before .before .before .before in
+    let test = done .before .before .before .before .before .before .before .loop-test .taken in
     let inv = done .before .before .before .before .before .before .before .before .loop .inv in
     let cs = done .inside-step .kept .1 .1 .1 .0 in
     let ps = done .inside-step .kept .1 .1 .1 .1 .0 in
-    (search needs, cs ∙ inv .1, ps ∙ inv .2, done .inside-step .ensures, same-lengths _ _ _ _ _ (inv .4) cs ps)
+    let said = done .inside-step .ensures in (
+      omega (arith, test),
+      cs ∙ inv .1,
+      ps ∙ inv .2,
+      said .1 .1,
+      same-lengths _ _ _ _ _ (inv .4) cs ps,
+      calls _ _ _ _ _ (inv .5) test (done .before .before .before .before .if1 .left) (done .before .before .before .if2 .left) (done .inside-step .result) _ _ (said .0, said .1 .0),
+    )
 
 number-of-requires : tie.Need-number-of-requires Inv-loop μ-loop
 number-of-requires c κs = search needs
@@ -76,7 +93,10 @@ same-length-2 : tie.Need-same-length-2 Inv-loop μ-loop
 same-length-2 c = search needs
 
 returns : tie.Need-returns Inv-loop μ-loop
-returns c = search needs
+returns c =
+    let inv = c .before .before .loop .inv in
+    let same = list-ends _ _ _ _ _ (inv .5) (c .before .loop-test .left) in
+    (c .number-of .ensures ∙ ap (λ (s : State). s .last) same, (ap (λ (s : State). s .world .committed) same, ap (λ (s : State). s .world .pending) same))
 
 pub inside-run-spec : {M : Type 1} → statement M
 inside-run-spec =

@@ -1,8 +1,8 @@
 //! `compare [OPTIONS] PROGRAM [ARGS..]`: runs the program on scripts made by
 //! seed and compares its listings with the reference's. At the first
-//! difference it prints the shortest script found that shows one, and both
-//! listings, and ends with status 1. A program that does not end in time, or
-//! ends badly, differs too.
+//! difference it prints the shortest script found that shows one, whether no
+//! fewer lines do, and both listings, and ends with status 1. A program that
+//! does not end in time, or ends badly, differs too.
 
 #![forbid(unsafe_code)]
 

@@ -6,14 +6,18 @@ use crate::subject::Subject;
 use cards_reference::scripts::{quick_script, script};
 use std::time::Duration;
 
-pub const USAGE: &str = "usage: compare [--seed S] [--count N] [--limit SECONDS] [--quick] \
-[--pieces | --frames] PROGRAM [ARGS..]";
+pub const USAGE: &str = "usage: compare [--seed S] [--count N] [--limit SECONDS] [--trials T] \
+[--search SECONDS] [--quick] [--pieces | --frames] PROGRAM [ARGS..]";
 
 pub struct Options {
     pub seed: u64,
     pub count: u64,
     /// How long the program may take for one script.
     pub limit: Duration,
+    /// How many choices of lines may be tried for the fewest that differ.
+    pub trials: usize,
+    /// How long the search for them may take.
+    pub search: Duration,
     /// Most scripts are short.
     pub quick: bool,
     /// Standard input comes in pieces; scripts are short.
@@ -31,6 +35,8 @@ impl Options {
             seed: 1,
             count: 1_000,
             limit: Duration::from_secs(10),
+            trials: 100_000,
+            search: Duration::from_secs(60),
             quick: false,
             pieces: false,
             piece: None,
@@ -71,7 +77,9 @@ pub fn options(mut arguments: impl Iterator<Item = String>) -> Option<Options> {
         match argument.as_str() {
             "--seed" => options.seed = arguments.next()?.parse().ok()?,
             "--count" => options.count = arguments.next()?.parse().ok()?,
-            "--limit" => options.limit = Duration::from_secs(arguments.next()?.parse().ok()?),
+            "--limit" => options.limit = seconds(arguments.next())?,
+            "--trials" => options.trials = arguments.next()?.parse().ok()?,
+            "--search" => options.search = seconds(arguments.next())?,
             "--quick" => options.quick = true,
             "--pieces" => options.pieces = true,
             "--frames" => options.frames = true,
@@ -84,4 +92,8 @@ pub fn options(mut arguments: impl Iterator<Item = String>) -> Option<Options> {
         }
     }
     None
+}
+
+fn seconds(argument: Option<String>) -> Option<Duration> {
+    argument?.parse().ok().map(Duration::from_secs)
 }

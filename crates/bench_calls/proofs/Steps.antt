@@ -1,0 +1,114 @@
+-- One call of a list, by the promise of the function that makes it. Assumes nothing.
+use mathlib.Core.Path.{_≡_, refl, sym, ap, subst, _∙_}
+use mathlib.Core.Bool.{Bool, true, false, cond}
+use mathlib.Core.List.{List, [], _∷_}
+use Prim.Native.Nat.{ℕ, zero, suc, _+_, _/_}
+use lib.Dec.{eqb}
+use borrow.Author.Tests.{ne-eqb}
+use Rattle.machine.specs.Record.{coreAt}
+use Rattle.machine.specs.Rule.{World, Result, lent, left, rule, setup, release, begin, read, write, commit, giveUp, finish, commitRefusal, unlessLent, told, waiting, through, blocked}
+use Rattle.machine.specs.Answers.{named}
+use Rattle.machine.specs.Sound.{sound}
+use Rattle.machine.specs.declared.Machine.{Machine}
+use Rattle.machine.specs.declared.Outcome.{Outcome}
+use Rattle.machine.specs.declared.Answer.the-variants.{Ready, Refused}
+use Rattle.bench_calls.specs.Lists.{numberOf, called, tested, door}
+
+-- what a call left is this, but for the core that waits names
+abbrev pub Left : Result → Outcome → List ℕ → List ℕ → Type 0
+Left e r cs ps = (numberOf (r .answer) ≡ numberOf (e .answer)) × (lent (r .machine) cs ps ≡ e .world)
+
+-- two results with the same number and the same world
+abbrev Alike : Result → Result → Type 0
+Alike a b = (numberOf (a .answer) ≡ numberOf (b .answer)) × (a .world ≡ b .world)
+
+commit-alike : (e : ℕ) (w : World) (c : ℕ) → Alike (commit e w c) (commit 0 w c)
+unfolding commit
+commit-alike e w c = refused (commitRefusal w c) (coreAt (w .machine) c .zombie) (blocked (w .machine) c)
+  where
+    kept : (b : Bool) → Alike (cond b (waiting w e) (through w c)) (cond b (waiting w 0) (through w c))
+    kept true = (refl, refl)
+    kept false = (refl, refl)
+
+    marked : (z b : Bool)
+        → Alike (cond z (told w c) (cond b (waiting w e) (through w c))) (cond z (told w c) (cond b (waiting w 0) (through w c)))
+    marked true b = (refl, refl)
+    marked false b = kept b
+
+    refused : (n : ℕ) (z b : Bool)
+        → Alike (unlessLent n w (cond z (told w c) (cond b (waiting w e) (through w c))))
+        (unlessLent n w (cond z (told w c) (cond b (waiting w 0) (through w c))))
+    refused zero z b = unfold unlessLent in marked z b
+    refused (suc n) z b = unfold unlessLent in (refl, refl)
+
+-- a call that is lent both tables
+by-result : (e : Result) (r : Outcome) (cs ps : List ℕ) → left r cs ps ≡ e → Left e r cs ps
+by-result e r cs ps p = (ap (λ (x : Result). numberOf (x .answer)) p, ap (λ (x : Result). x .world) p)
+
+-- a call that is lent none
+by-outcome : (o r : Outcome) (cs ps : List ℕ) → r ≡ o → Left (left o cs ps) r cs ps
+by-outcome o r cs ps p = by-result (left o cs ps) r cs ps (ap (λ (x : Outcome). left x cs ps) p)
+
+module _ (other : Result) (m : Machine) (cs ps : List ℕ) (call c : ℕ) (r : Outcome) where
+  abbrev w : World
+  w = lent m cs ps
+
+  pub release-done : call ≡ 3 → r ≡ release m c 7 100 → Left (called other w call c) r cs ps
+  release-done e p =
+      subst (λ (n : ℕ). Left (called other w n c) r cs ps) (sym e) (unfold called rule in by-outcome (release m c 7 100) r cs ps p)
+
+  pub begin-done : call ≡ 4 → r ≡ begin m c → Left (called other w call c) r cs ps
+  begin-done e p =
+      subst (λ (n : ℕ). Left (called other w n c) r cs ps) (sym e) (unfold called rule in by-outcome (begin m c) r cs ps p)
+
+  pub give-up-done : call ≡ 8 → r ≡ giveUp m c → Left (called other w call c) r cs ps
+  give-up-done e p =
+      subst (λ (n : ℕ). Left (called other w n c) r cs ps) (sym e) (unfold called rule in by-outcome (giveUp m c) r cs ps p)
+
+  pub finish-done : call ≡ 9 → r ≡ finish m c → Left (called other w call c) r cs ps
+  finish-done e p =
+      subst (λ (n : ℕ). Left (called other w n c) r cs ps) (sym e) (unfold called rule in by-outcome (finish m c) r cs ps p)
+
+  -- the tables after the call
+  module _ (cs′ ps′ : List ℕ) where
+    pub read-done : call ≡ 5 → left r cs′ ps′ ≡ read w c (c / 2 + 32) → Left (called other w call c) r cs′ ps′
+    read-done e p =
+        subst (λ (n : ℕ). Left (called other w n c) r cs′ ps′) (sym e) (unfold called rule in by-result (read w c (c / 2 + 32)) r cs′ ps′ p)
+
+    pub write-done : call ≡ 6 → left r cs′ ps′ ≡ write w c c 5 → Left (called other w call c) r cs′ ps′
+    write-done e p =
+        subst (λ (n : ℕ). Left (called other w n c) r cs′ ps′) (sym e) (unfold called rule in by-result (write w c c 5) r cs′ ps′ p)
+
+    pub commit-done : call ≡ 7 → left r cs′ ps′ ≡ commit (named (r .answer)) w c → Left (called other w call c) r cs′ ps′
+    commit-done e p =
+        let l = by-result (commit (named (r .answer)) w c) r cs′ ps′ p in
+        let alike = commit-alike (named (r .answer)) w c in
+        subst (λ (n : ℕ). Left (called other w n c) r cs′ ps′) (sym e) (unfold called rule in (l .0 ∙ alike .0, l .1 ∙ alike .1))
+
+-- a public call: setup, and each of the others
+module _ (m : Machine) (cs ps : List ℕ) (call c : ℕ) (r : Outcome) (cs′ ps′ : List ℕ) where
+  pub setup-done : call ≡ 2 → left r cs′ ps′ ≡ setup (m .cores) (m .objects) cs ps → Left (door (lent m cs ps) call c) r cs′ ps′
+  setup-done e p =
+      subst (λ (n : ℕ). Left (door (lent m cs ps) n c) r cs′ ps′) (sym e)
+      (unfold door in by-result (setup (m .cores) (m .objects) cs ps) r cs′ ps′ p)
+
+  pub past-setup : (call ≡ 2 → ⊥) → Left (called (tested (lent m cs ps)) (lent m cs ps) call c) r cs′ ps′
+      → Left (door (lent m cs ps) call c) r cs′ ps′
+  unfolding door
+  past-setup ne l =
+      subst
+      (λ (b : Bool). Left (cond b (setup (m .cores) (m .objects) cs ps) (called (tested (lent m cs ps)) (lent m cs ps) call c)) r cs′ ps′)
+      (sym (ne-eqb call 2 ne)) l
+
+-- a number that is no call
+pub no-call : (other : Result) (m : Machine) (cs ps : List ℕ) (call c : ℕ) (r : Outcome) → left r cs ps ≡ other → (call ≡ 3 → ⊥)
+    → (call ≡ 4 → ⊥) → (call ≡ 5 → ⊥) → (call ≡ 6 → ⊥) → (call ≡ 7 → ⊥) → (call ≡ 8 → ⊥) → (call ≡ 9 → ⊥)
+    → Left (called other (lent m cs ps) call c) r cs ps
+unfolding called
+no-call other m cs ps call c r p n3 n4 n5 n6 n7 n8 n9 =
+    rw (ne-eqb call 3 n3, ne-eqb call 4 n4, ne-eqb call 5 n5, ne-eqb call 6 n6, ne-eqb call 7 n7, ne-eqb call 8 n8, ne-eqb call 9 n9)
+    (by-result other r cs ps p)
+
+pub tested-left : (m : Machine) (cs ps : List ℕ) (r : Outcome) → r ≡ record { answer = cond (sound m) Ready (Refused 2); machine = m }
+    → left r cs ps ≡ tested (lent m cs ps)
+tested-left m cs ps r p = ap (λ (x : Outcome). left x cs ps) p

@@ -1,0 +1,91 @@
+-- What a list of calls gives: the number of the last answer, and the two tables. Assumes nothing.
+use mathlib.Core.Bool.{cond}
+use mathlib.Core.List.{List, [], _∷_}
+use Prim.Native.Nat.{ℕ, _+_, _/_, _%_}
+use lib.Dec.{eqb}
+use Rattle.machine.specs.declared.Machine.{Machine}
+use Rattle.machine.specs.declared.Answer.{Answer}
+use Rattle.machine.specs.declared.Answer.the-variants.{Ready, Running, Queued, Begun, Value, Written, Waits, Committed, SetBack, Ended, Finished, Refused}
+use Rattle.machine.specs.Answers.{kind}
+use Rattle.machine.specs.Sound.{sound}
+use Rattle.machine.specs.Rule.{World, Result, withMachine, setup, rule, Release, Begin, Read, Write, Commit, GiveUp, Finish}
+
+-- the number of an answer; it does not show the core that waits names
+abbrev pub numberOf : Answer → ℕ
+numberOf Ready = 1
+numberOf Running = 2
+numberOf Queued = 3
+numberOf (Begun ticket) = ticket
+numberOf (Value v version) = v
+numberOf Written = 4
+numberOf (Waits e) = 5
+numberOf (Committed aborts) = 6
+numberOf SetBack = 7
+numberOf Ended = 8
+numberOf (Finished job) = 9
+numberOf (Refused n) = 10
+
+-- ---- one call
+
+-- a call after setup by its rule, the core that waits names here 0; another number gives `other`
+unfoldable pub called : Result → World → ℕ → ℕ → Result
+called other w call c =
+    cond (eqb call 3) (rule 0 w (Release c 7 100))
+    (cond (eqb call 4) (rule 0 w (Begin c))
+    (cond (eqb call 5) (rule 0 w (Read c (c / 2 + 32)))
+    (cond (eqb call 6) (rule 0 w (Write c c 5))
+    (cond (eqb call 7) (rule 0 w (Commit c))
+    (cond (eqb call 8) (rule 0 w (GiveUp c))
+    (cond (eqb call 9) (rule 0 w (Finish c)) other))))))
+
+-- the soundness test alone
+abbrev pub tested : World → Result
+tested w = record { answer = cond (sound (w .machine)) Ready (Refused 2); world = w }
+
+-- a public call: setup too; any other number, the soundness test alone
+unfoldable pub door : World → ℕ → ℕ → Result
+door w call c =
+    cond (eqb call 2) (setup (w .machine .cores) (w .machine .objects) (w .committed) (w .pending)) (called (tested w) w call c)
+
+-- an inside function; any other number changes nothing
+abbrev pub inside : World → ℕ → ℕ → Result
+inside w call c = called (record { answer = Ready; world = w }) w call c
+
+-- ---- a list
+
+-- the number of the last answer, the world after it, and the record that was last kept
+pub record State : Type 0 where
+  pub last : ℕ
+  pub world : World
+  pub kept : Machine
+
+abbrev pub after : Result → Machine → State
+after r kept = record { last = numberOf (r .answer); world = r .world; kept = kept }
+
+-- one number of a list: 0 keeps the record, 1 goes back to the one kept, others are calls, for the core x / 16
+unfoldable pub next : (World → ℕ → ℕ → Result) → State → ℕ → State
+next step s x =
+    cond (eqb (x % 16) 0) (record { last = s .last; world = s .world; kept = s .world .machine })
+    (cond (eqb (x % 16) 1) (record { last = s .last; world = withMachine (s .world) (s .kept); kept = s .kept })
+    (after (step (s .world) (x % 16) (x / 16)) (s .kept)))
+
+-- the numbers of a list, one after another
+unfoldable pub run : (World → ℕ → ℕ → Result) → State → List ℕ → State
+run step s [] = s
+run step s (x ∷ xs) = run step (next step s x) xs
+
+-- a machine that setup made ready
+abbrev pub ready : World → State
+ready w = record { last = 1; world = w; kept = w .machine }
+
+-- what setup leaves
+abbrev pub start : Result → State
+start r = after r (r .world .machine)
+
+-- the list on a new machine, by the public calls
+unfoldable pub doorRun : Result → List ℕ → State
+doorRun made list = run door (start made) list
+
+-- the same by the inside functions, if setup answers ready, the enum's first case
+unfoldable pub insideRun : Result → List ℕ → State
+insideRun made list = cond (eqb (kind (made .answer)) 0) (run inside (start made) list) (start made)
