@@ -85,8 +85,7 @@ unfolding onward leaves
 returns-4 c =
     let found = c .before .before in
     let start = found .before .before .before .before .before in
-    let spelt = sym (found .before .before .parse .ensures) ∙ found .call .given .1 in
-    (
+    let spelt = sym (found .before .before .parse .ensures) ∙ found .call .given .1 in (
       λ w on ls. line-called _ w _ ls _ (start .pre .1) (start .pre .2) _ spelt,
       ((λ e. c .if1 .left, omega arith, refl), λ w on. line-called-end _ w _ [] _ (start .pre .1) (start .pre .2) _ spelt),
     )
