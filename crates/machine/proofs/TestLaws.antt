@@ -5,8 +5,7 @@ use mathlib.Core.Bool.{Bool, true, false, not, _&&_, true≢false}
 use Prim.Native.Nat.{ℕ, zero, suc, _+_, _≤_, _<_}
 use native.Mathlib.Omega.{arith}
 use native.Mathlib.Numerals.{add-one}
-use lib.Dec.{ltb}
-use borrow.Author.Tests.{lt-ltb, not-true, not-false}
+use borrow.Author.Tests.{not-true, not-false}
 use Rattle.objset.specs.Objset.{each}
 use Rattle.objset.proofs.Laws.{each-one}
 use Rattle.machine.specs.Record.{tally}
@@ -33,9 +32,6 @@ breaks {r} e t = sym e ∙ not-true r t
 pub and-true : (a : Bool) → (a && true) ≡ a
 and-true true = refl
 and-true false = refl
-
-pub some-number : (n : ℕ) → (n ≡ 0 → ⊥) → ltb 0 n ≡ true
-some-number n h = lt-ltb 0 n (omega arith)
 
 -- ---- tests of each, one by one
 

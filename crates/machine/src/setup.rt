@@ -22,8 +22,8 @@ pub fn fresh(cores: u8, objects: u8) -> Machine
         ticket: 0,
         aborts: 0,
         zombie: false,
-        reads: 0,
-        writes: 0,
+        reads: objset::empty(),
+        writes: objset::empty(),
     };
     Machine {
         cores,

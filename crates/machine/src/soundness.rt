@@ -17,16 +17,7 @@ ghost use Rattle.machine.specs.Sound.{ticketsDiffer, ticketsGiven, abort
 fn in_range(m: Machine) -> bool
     ensures { λ r. ⌜ r ≡ inRange m ⌝ }
 {
-    if m.cores == 0 {
-        return false;
-    }
-    if m.cores > 16 {
-        return false;
-    }
-    if m.objects == 0 {
-        return false;
-    }
-    m.objects <= 64
+    crate::in_range(m.cores as u32, m.objects as u32)
 }
 
 // Whether the core's sets lie within the objects.

@@ -10,12 +10,12 @@ ghost use mathlib.Core.Bool.{true, false, _&&_};
 ghost use Prim.Native.Nat.{ℕ, _+_, _*_, _≤_, _<_};
 ghost use lib.Dec.{ltb};
 ghost use lib.ListN.{length, getD};
-ghost use Rattle.objset.specs.Objset.{has, meeting};
-ghost use Rattle.machine.specs.Record.{noCore, coreAt, dataSet};
+ghost use Rattle.objset.specs.Objset.{has};
+ghost use Rattle.machine.specs.Record.{noCore, coreAt};
 ghost use Rattle.machine.specs.Sound.{sound};
 ghost use Rattle.machine.specs.Answers.{named};
 ghost use Rattle.machine.specs.Inside.{Fine};
-ghost use Rattle.machine.specs.Rule.{lent, left, conflict, contender, blocked, aborted, cleared, changed, through};
+ghost use Rattle.machine.specs.Rule.{lent, left, conflict, contender, blocked, isStruck, aborted, cleared, changed, through};
 ghost use Rattle.machine.specs.Rule.{commit as commitRule};
 
 // Whether two transactions conflict: the write set of either meets the data set of the other.
@@ -70,7 +70,7 @@ fn blocked_by(m: Machine, c: usize) -> Blocker
 
 // Whether another's commit of the write set ws strikes core k: it has a transaction whose data set meets ws.
 fn is_struck(ws: u64, k: Core) -> bool
-    ensures { λ r. ⌜ r ≡ (k .active && meeting ws (dataSet k)) ⌝ }
+    ensures { λ r. ⌜ r ≡ isStruck ws k ⌝ }
 {
     if k.active {
         return objset::meets(ws, objset::union(k.reads, k.writes));
@@ -85,8 +85,8 @@ fn abort(mut k: Core) -> Core
 {
     k.aborts = k.aborts + 1;
     k.zombie = true;
-    k.reads = 0;
-    k.writes = 0;
+    k.reads = objset::empty();
+    k.writes = objset::empty();
     k
 }
 

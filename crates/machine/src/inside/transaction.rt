@@ -22,8 +22,8 @@ pub(crate) fn without_transaction(k: Core) -> Core
         ticket: 0,
         aborts: 0,
         zombie: false,
-        reads: 0,
-        writes: 0,
+        reads: objset::empty(),
+        writes: objset::empty(),
     }
 }
 
@@ -70,8 +70,8 @@ pub fn begin(mut m: Machine, core: u32) -> Outcome
         ticket,
         aborts: 0,
         zombie: false,
-        reads: 0,
-        writes: 0,
+        reads: objset::empty(),
+        writes: objset::empty(),
     };
     Outcome {
         answer: Answer::Begun(ticket),

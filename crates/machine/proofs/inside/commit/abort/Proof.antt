@@ -1,14 +1,21 @@
 -- `machine::inside::commit::abort` meets its contract. Assumes nothing.
 use mathlib.Core.Path.{refl}
 use borrow.Author.Needs.{needs}
+use Rattle.objset.proofs.Laws.{none-zero}
 use Rattle.machine.proofs.inside.commit.abort.Statement.{statement}
 use Rattle.machine.proofs.inside.commit.abort.Tie as tie
 
 add-k : tie.Need-add-k
 add-k c = search needs
 
+empty-requires : tie.Need-empty-requires
+empty-requires c κs = search needs
+
+empty-requires-2 : tie.Need-empty-requires-2
+empty-requires-2 c κs = search needs
+
 returns : tie.Need-returns
-returns c = refl
+returns c = rw (c .before .empty .ensures, c .empty2 .ensures, none-zero) refl
 
 pub abort-spec : {M : Type 1} → statement M
-abort-spec = tie.close (tie.spec add-k returns)
+abort-spec = tie.close (tie.spec add-k empty-requires empty-requires-2 returns)

@@ -2,6 +2,7 @@
 use mathlib.Core.Path.{_∙_, sym, ap}
 use native.Mathlib.Omega.{arith}
 use borrow.Author.Needs.{needs}
+use Rattle.objset.proofs.Laws.{none-zero}
 use Rattle.machine.specs.Rule.{begun}
 use Rattle.machine.proofs.Facts.{core-place, few-jobs}
 use Rattle.machine.proofs.CallLaws.{begin-no-core, begin-no-job, begin-open, begin-spent, begin-begins}
@@ -47,19 +48,26 @@ running-of-requires c κs =
 mul-t13 : tie.Need-mul-t13
 mul-t13 c = search needs
 
+empty-requires : tie.Need-empty-requires
+empty-requires c κs = search needs
+
+empty-requires-2 : tie.Need-empty-requires-2
+empty-requires-2 c κs = search needs
+
 element-set-from-m : tie.Need-element-set-from-m
 element-set-from-m c =
-    let else1 = c .before .before .before .before .before .before .before in
+    let else1 = c .before .before .before .before .before .before .before .before .before in
     core-place _ (else1 .before .pre) _ (else1 .if1 .left)
 
 returns-5 : tie.Need-returns-5
 unfolding begun
 returns-5 c =
-    let else4 = c .before .before in
+    let run = c .before .before in
+    let else4 = run .before .before in
     let else3 = else4 .before in
     let else2 = else3 .before in
     let else1 = else2 .before .before .before in
-    rw (c .running-of .ensures)
+    rw (run .running-of .ensures, c .before .empty .ensures, c .empty2 .ensures, none-zero)
     (begin-begins _ _ (else1 .before .pre) (else1 .if1 .left) (else2 .if2 .left) (else3 .if3 .left) (else4 .if4 .left))
 
 pub begin-spec : {M : Type 1} → statement M
@@ -75,6 +83,8 @@ begin-spec =
     returns-4
     add-m
     running-of-requires
+    empty-requires
+    empty-requires-2
     mul-t13
     element-set-from-m
     returns-5)
