@@ -5,7 +5,7 @@ use mathlib.Core.Logic.{_⊎_}
 use mathlib.Core.Bool.{Bool, true, false, cond, _&&_, _||_}
 use mathlib.Core.List.{List, [], _∷_, _++_}
 use lib.Dec.{eqb, ltb}
-use lib.ListN.{length, take, drop, set}
+use lib.ListN.{length, take, drop, set, replicate}
 use Rattle.machine.specs.Record.{blank}
 use Rattle.machine.specs.Rule.{World, lent}
 use Rattle.machine.specs.declared.Machine.{Machine}
@@ -61,6 +61,18 @@ pub record State : Type 0 where
 
 abbrev pub state : Reading → List ℕ → List ℕ → State
 state r committed pending = record { reading = r; committed = committed; pending = pending }
+
+-- before the first byte; the order of the fields is not known yet
+abbrev pub started : Reading
+started =
+    record {
+      going = true;
+      columns = record { call = 0; core = 0; card = 0; value = 0 };
+      number = 1;
+      line = replicate 65 0;
+      length = 0;
+      machine = blank;
+    }
 
 -- a table whose first words are these; the others stay
 abbrev pub over : List ℕ → List ℕ → List ℕ

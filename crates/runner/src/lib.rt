@@ -19,7 +19,7 @@ ghost use lib.Dec.{eqb, ltb};
 ghost use mathlib.Core.List.{List, [], _++_};
 ghost use Prim.Native.Nat.{ℕ, _*_, _≤_};
 ghost use lib.ListN.{length, take, drop};
-ghost use Rattle.runner.specs.Kept.{Fit, rest, state, fed, finished};
+ghost use Rattle.runner.specs.Kept.{Fit, rest, state, started, fed, finished};
 ghost use Rattle.runner.specs.Listing.{body};
 ghost use Rattle.script.specs.Pieces.{lines as linesOf};
 
@@ -51,6 +51,7 @@ pub fn start(committed: &[u32], pending: &[u32]) -> Reading
     requires { ⌜ (length (now committed) ≡ 64) × (length (now pending) ≡ 1024) ⌝ }
     ensures fit { λ r. ⌜ Fit r (now (committed .entry)) (now (pending .entry)) ⌝ }
     ensures whole { λ r. ⌜ ((bytes : List ℕ) → rest r (now (committed .entry)) (now (pending .entry)) bytes ≡ body (linesOf bytes)) ⌝ }
+    ensures kept { λ r. ⌜ r ≡ started ⌝ }
 {
     Reading {
         going: true,

@@ -50,7 +50,7 @@ loop-holds : tie.Need-loop-holds Inv-loop μ-loop
 loop-holds c =
     let put = c .before .before .before .before .before .before .before .before .before .put-heading in
     running-starts _ _ _ _ _ _ _ _ _ (heading-put _ _ _ refl (put .ensures .0) (put .ensures .1)) (c .before .before .before .before .before .put-bytes .ensures .1)
-    (put .kept .0) (c .start .ensures .0) (c .start .ensures .1)
+    (put .kept .0) (c .start .ensures .0) (c .start .ensures .1 .0)
 
 chunk-end-requires : tie.Need-chunk-end-requires Inv-loop μ-loop
 chunk-end-requires c κs = search needs

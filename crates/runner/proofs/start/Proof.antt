@@ -23,7 +23,7 @@ returns c =
         few-lines = λ e. omega arith;
         first-blank = λ e. c .blank .ensures;
       },
-      whole-script _ _ _ refl refl refl,
+      (whole-script _ _ _ refl refl refl, rw (c .blank .ensures) refl),
     )
 
 pub start-spec : {M : Type 1} → statement M
