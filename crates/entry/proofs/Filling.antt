@@ -1,12 +1,12 @@
 -- A listing that is put into the output piece by piece: what holds after each piece. Assumes nothing.
 use mathlib.Core.Path.{_≡_, refl, sym, ap, subst, _∙_}
 use mathlib.Core.Bool.{Bool, true, false}
-use mathlib.Core.List.{List, [], _∷_, _++_, append-nil, append-assoc}
+use mathlib.Core.List.{List, [], _++_, append-nil, append-assoc}
 use Prim.Native.Nat.{ℕ, _+_, _-_, _*_, _≤_, _<_}
 use native.Mathlib.Omega.{arith}
 use lib.Dec.{leb}
-use lib.ListN.{length, take, drop, length-take, length-append, length-drop, take-append-drop, drop-of-length-le}
-use lib.Seq.{length-take-le, take-at, drop-at, drop-drop, take-add, take-append-seam, drop-append-add}
+use lib.ListN.{length, take, drop, length-take, length-append, take-append-drop, drop-of-length-le}
+use lib.Seq.{length-take-le, take-at, drop-at, drop-drop, drop-append-add}
 use borrow.Author.Tests.{leb-true}
 use Rattle.script.specs.Pieces.{lines}
 use Rattle.listing.specs.Text.{heading, placed, fitting, put}

@@ -1,11 +1,11 @@
 -- What a call after setup leaves, where it is lent the first words of the two tables: the world of the rule, with a line of the listing
 -- that says the rule's answer. Assumes nothing.
 use mathlib.Core.Path.{_≡_, refl, sym, ap, subst, _∙_}
-use mathlib.Core.Logic.{inl, inr}
+use mathlib.Core.Logic.{inr}
 use mathlib.Core.Bool.{Bool, true, false, cond}
-use mathlib.Core.List.{List, [], _∷_, _++_}
+use mathlib.Core.List.{List, _++_}
 use Prim.Native.Nat.{ℕ, zero, suc, _*_}
-use lib.ListN.{length, take, drop, take-append-drop}
+use lib.ListN.{length, take, drop}
 use lib.Seq.{take-at, length-front}
 use Rattle.machine.specs.Record.{coreAt}
 use Rattle.machine.specs.Rule.{World, Result, lent, rule, commit, commitRefusal, unlessLent, told, waiting, through, blocked, Call, Release, Begin, Read, Write, Commit, GiveUp, Finish}
@@ -13,11 +13,10 @@ use Rattle.machine.specs.Follows.{Follows}
 use Rattle.machine.specs.Answers.{named}
 use Rattle.machine.specs.declared.Machine.{Machine}
 use Rattle.machine.specs.declared.Outcome.{Outcome}
-use Rattle.machine.specs.declared.Answer.{Answer}
 use Rattle.machine.proofs.Case.{case-of}
 use Rattle.machine.specs.Inside.{Good}
 use Rattle.machine.proofs.Sound.Keeps.{keeps-good}
-use Rattle.listing.specs.Text.{said, word, value}
+use Rattle.listing.specs.Text.{said}
 use Rattle.runner.specs.Kept.{held, over, Held}
 use Rattle.runner.proofs.Over.{over-front}
 

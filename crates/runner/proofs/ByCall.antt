@@ -1,29 +1,26 @@
 -- Each call of a script, by the promise of the function that runs it. Assumes nothing.
-use mathlib.Core.Path.{_≡_, refl, sym, ap, subst, _∙_}
-use mathlib.Core.Logic.{inl, ⊎-elim}
+use mathlib.Core.Path.{_≡_, refl, sym, ap, subst}
 use mathlib.Core.Bool.{Bool, true, false, not, true≢false}
 use mathlib.Core.List.{List, [], _∷_, _++_}
-use Prim.Native.Nat.{ℕ, _*_, _≤_}
+use Prim.Native.Nat.{ℕ, _*_}
 use lib.ListN.{length, take, drop, take-append-drop}
 use types.Run.{OneOf, miss}
 use denote.Enum.Declared.{tagOf}
 use Rattle.machine.specs.Record.{blank}
 use Rattle.machine.specs.Rule as Rule
-use Rattle.machine.specs.Rule.{World, Result, lent, left, release, begin, read, write, commit, giveUp, finish, contender, firstAhead, coreOf}
-use Rattle.machine.specs.Answers.{named}
+use Rattle.machine.specs.Rule.{World, Result, lent, release, begin, read, write, commit, giveUp, finish, firstAhead, coreOf}
 use Rattle.machine.specs.Follows.{Follows}
 use Rattle.machine.specs.Sound as Sound
 use Rattle.machine.specs.declared.Machine.{Machine}
 use Rattle.machine.specs.declared.Outcome.{Outcome}
-use Rattle.machine.specs.declared.Answer.the-variants.{Waits, Refused}
-use Rattle.machine.proofs.Binds.{release-follows, begin-follows, read-follows, write-follows, commit-follows, give-up-follows, finish-follows}
+use Rattle.machine.specs.declared.Answer.the-variants.{Refused}
 use Rattle.machine.specs.Inside.{Good}
 use Rattle.script.specs.declared.Call.{Call}
 use Rattle.script.specs.declared.Call.the-variants as Call
 use Rattle.script.proofs.Call as CallType
 use Rattle.listing.specs.Text.{said}
-use Rattle.runner.specs.Kept.{held, over, Held}
-use Rattle.runner.specs.Listing.{Request, Asks, request, met, called, setUp, nothing}
+use Rattle.runner.specs.Kept.{held}
+use Rattle.runner.specs.Listing.{Request, Asks, request, met, called, nothing}
 use Rattle.runner.proofs.Setups as Setups
 use Rattle.runner.proofs.Acts.{Done, acted}
 
@@ -58,43 +55,6 @@ module _ (m : Machine) (cs ps : List ℕ) (g : Good (held m cs ps)) (cl : length
       subst (λ (x : List ℕ). ByCall m cs ps call r x ps) (take-append-drop dl cs)
       (subst (λ (y : List ℕ). ByCall m cs ps call r (take dl cs ++ drop dl cs) y) (take-append-drop nl ps)
       (lent-done asked e (take dl cs) (take nl ps) refl refl f))
-
-  pub release-done : (c number deadline : ℕ) → call ≡ Call.Release c number deadline → r ≡ release m c number deadline → ByCall m cs ps call r cs ps
-  unfolding request
-  release-done c number deadline e p =
-      alone-done (Rule.Release c number deadline) (ap request e) (release-follows m (take dl cs) (take nl ps) r c number deadline p)
-
-  pub begin-done : (c : ℕ) → call ≡ Call.Begin c → r ≡ begin m c → ByCall m cs ps call r cs ps
-  unfolding request
-  begin-done c e p = alone-done (Rule.Begin c) (ap request e) (begin-follows m (take dl cs) (take nl ps) r c p)
-
-  pub give-up-done : (c : ℕ) → call ≡ Call.GiveUp c → r ≡ giveUp m c → ByCall m cs ps call r cs ps
-  unfolding request
-  give-up-done c e p = alone-done (Rule.GiveUp c) (ap request e) (give-up-follows m (take dl cs) (take nl ps) r c p)
-
-  pub finish-done : (c : ℕ) → call ≡ Call.Finish c → r ≡ finish m c → ByCall m cs ps call r cs ps
-  unfolding request
-  finish-done c e p = alone-done (Rule.Finish c) (ap request e) (finish-follows m (take dl cs) (take nl ps) r c p)
-
-  pub read-done : (c d : ℕ) → call ≡ Call.Read c d → left r (take dl cs) (take nl ps) ≡ read (held m cs ps) c d → ByCall m cs ps call r cs ps
-  unfolding request
-  read-done c d e p =
-      alone-done (Rule.Read c d) (ap request e) (read-follows m (take dl cs) (take nl ps) r (take dl cs) (take nl ps) c d p)
-
-  pub write-done : (c d v : ℕ) (ps′ : List ℕ) → call ≡ Call.Write c d v → length ps′ ≡ length (take nl ps)
-      → left r (take dl cs) ps′ ≡ write (held m cs ps) c d v → ByCall m cs ps call r cs (ps′ ++ drop nl ps)
-  unfolding request
-  write-done c d v ps′ e l p =
-      subst (λ (x : List ℕ). ByCall m cs ps call r x (ps′ ++ drop nl ps)) (take-append-drop dl cs)
-      (lent-done (Rule.Write c d v) (ap request e) (take dl cs) ps′ refl l
-      (write-follows m (take dl cs) (take nl ps) r (take dl cs) ps′ c d v p))
-
-  pub commit-done : (c : ℕ) (cs′ ps′ : List ℕ) → call ≡ Call.Commit c → length cs′ ≡ length (take dl cs) → length ps′ ≡ length (take nl ps)
-      → left r cs′ ps′ ≡ commit (named (r .answer)) (held m cs ps) c → ((e : ℕ) → r .answer ≡ Waits e → contender m c e ≡ true)
-      → ByCall m cs ps call r (cs′ ++ drop dl cs) (ps′ ++ drop nl ps)
-  unfolding request
-  commit-done c cs′ ps′ e k l p waits =
-      lent-done (Rule.Commit c) (ap request e) cs′ ps′ k l (commit-follows m (take dl cs) (take nl ps) r cs′ ps′ c p waits)
 
 -- ---- a blank record
 

@@ -9,7 +9,7 @@ use Rattle.machine.specs.Rule.{World}
 use Rattle.machine.specs.declared.Machine.{Machine}
 use Rattle.script.specs.declared.Columns.{Columns}
 use Rattle.runner.specs.declared.Reading.{Reading}
-use Rattle.runner.specs.Kept.{State, state, held, begun, over, lineEnd, pastLine, joining, after, finished}
+use Rattle.runner.specs.Kept.{state, held, begun, over, lineEnd, pastLine, joining, after, finished}
 
 abbrev pub reading : Bool → Columns → ℕ → List ℕ → ℕ → Machine → Reading
 reading going columns number line length machine =

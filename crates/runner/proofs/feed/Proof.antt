@@ -6,21 +6,24 @@ use mathlib.Core.List.{List, _++_}
 use Prim.Native.Nat.{ℕ, _+_, _-_, _≤_}
 use native.Mathlib.Omega.{arith}
 use lib.ListN as Nat
+use lib.ListN.{take-append-drop}
 use lib.Seq.{length-take-le}
 use borrow.Author.Needs.{needs}
 use Rattle.machine.specs.Inside.{Good}
 use Rattle.machine.specs.declared.Machine.{Machine}
+use Rattle.machine.specs.Rule as Rule
 use Rattle.machine.proofs.InsideLaws.{fine}
+use Rattle.machine.proofs.Binds.{release-follows, begin-follows, read-follows, write-follows, commit-follows, give-up-follows, finish-follows}
 use Rattle.script.specs.declared.Call.{Call}
 use Rattle.runner.specs.declared.Reading.{Reading}
 use Rattle.runner.specs.declared.lines.Ended.{Ended}
 use Rattle.runner.specs.declared.lines.Ended.the-variants.{Calls}
 use Rattle.runner.specs.Kept.{held}
 use Rattle.runner.specs.Ends.{onMachine, count}
-use Rattle.runner.specs.Listing.{called}
+use Rattle.runner.specs.Listing.{called, request}
 use Rattle.runner.proofs.Acts.{Done, done-same}
 use Rattle.runner.proofs.Sizes.{own-words, committed-room, pending-room, good-for-call}
-use Rattle.runner.proofs.ByCall.{setup-done, release-done, begin-done, give-up-done, finish-done, read-done, write-done, commit-done}
+use Rattle.runner.proofs.ByCall.{setup-done, lent-done, alone-done}
 use Rattle.runner.proofs.Written.{written}
 use Rattle.runner.proofs.Stepping.{reading}
 use Rattle.runner.proofs.Feeding.{Feeding, Left, feeding-starts, feeding-skips, feeding-loses, feeding-keeps, line-lists, line-calls, call-output, feeding-same, part-room, room-left, feeding-done, feeding-kept}
@@ -186,21 +189,23 @@ finish-requires c κs = good (c .before .before .before) _ (c .before .call8 .gi
 ran : (c : tie.At-match2-came Inv-loop μ-loop) → let at = c .before .before .before .before .before .before .before .before .before .before .before .before .before .before .before .loop in
     Done (at .committed) (at .pending) (called (held (at .machine) (at .committed) (at .pending)) (c .before .before .before .before .ended .given .0 .0))
     (c .match2 .done) (c .match2 .committed) (c .match2 .pending)
+unfolding request
 ran c =
     let at = c .before .before .before .before .before .before .before .before .before .before .before .before .before .before .before .loop in
     let w = held (at .machine) (at .committed) (at .pending) in
-    let x = called w (c .before .before .before .before .ended .given .0 .0) in
+    let call = c .before .before .before .before .ended .given .0 .0 in
+    let x = called w call in
     let holds = at .inv .fit .holds in
     let cl = holds .committed-long in
     let pl = holds .pending-long in
     ⊎-elim (λ s. done-same (at .committed) (at .pending) x (s .10) (s .11) (s .12) (setup-done (at .machine) (at .committed) (at .pending) _ _ _ _ _ _ (s .1 .given .1) (s .5 .ensures)))
-    (⊎-elim (λ s. done-same (at .committed) (at .pending) x (s .4) (s .5) (s .6) (release-done _ _ _ (good (c .before) _ (s .1 .given .1) refl) cl pl _ _ _ _ _ (s .1 .given .1) (s .3 .ensures)))
-    (⊎-elim (λ s. done-same (at .committed) (at .pending) x (s .4) (s .5) (s .6) (begin-done _ _ _ (good (c .before) _ (s .1 .given .1) refl) cl pl _ _ _ (s .1 .given .1) (s .3 .ensures)))
-    (⊎-elim (λ s. done-same (at .committed) (at .pending) x (s .6) (s .7) (s .8) (read-done _ _ _ (good (c .before) _ (s .1 .given .1) refl) cl pl _ _ _ _ (s .1 .given .1) (s .5 .ensures)))
-    (⊎-elim (λ s. done-same (at .committed) (at .pending) x (s .8) (s .9) (s .10) (write-done _ _ _ (good (c .before) _ (s .1 .given .1) refl) cl pl _ _ _ _ _ _ (s .1 .given .1) (s .5 .kept .1 .1 .1 .1 .1 .0) (s .5 .ensures)))
-    (⊎-elim (λ s. done-same (at .committed) (at .pending) x (s .10) (s .11) (s .12) (commit-done _ _ _ (good (c .before) _ (s .1 .given .1) refl) cl pl _ _ _ _ _ (s .1 .given .1) (s .5 .kept .1 .1 .0) (s .5 .kept .1 .1 .1 .0) (s .5 .ensures .0) (s .5 .ensures .1)))
-    (⊎-elim (λ s. done-same (at .committed) (at .pending) x (s .4) (s .5) (s .6) (give-up-done _ _ _ (good (c .before) _ (s .1 .given .1) refl) cl pl _ _ _ (s .1 .given .1) (s .3 .ensures)))
-    (λ s. done-same (at .committed) (at .pending) x (s .4) (s .5) (s .6) (finish-done _ _ _ (good (c .before) _ (s .1 .given .1) refl) cl pl _ _ _ (s .1 .given .1) (s .3 .ensures)))))))))
+    (⊎-elim (λ s. done-same (at .committed) (at .pending) x (s .4) (s .5) (s .6) (alone-done _ _ _ (good (c .before) _ (s .1 .given .1) refl) cl pl call _ (Rule.Release _ _ _) (ap request (s .1 .given .1)) (release-follows _ _ _ _ _ _ _ (s .3 .ensures))))
+    (⊎-elim (λ s. done-same (at .committed) (at .pending) x (s .4) (s .5) (s .6) (alone-done _ _ _ (good (c .before) _ (s .1 .given .1) refl) cl pl call _ (Rule.Begin _) (ap request (s .1 .given .1)) (begin-follows _ _ _ _ _ (s .3 .ensures))))
+    (⊎-elim (λ s. done-same (at .committed) (at .pending) x (s .6) (s .7) (s .8) (alone-done _ _ _ (good (c .before) _ (s .1 .given .1) refl) cl pl call _ (Rule.Read _ _) (ap request (s .1 .given .1)) (read-follows _ _ _ _ _ _ _ _ (s .5 .ensures))))
+    (⊎-elim (λ s. done-same (at .committed) (at .pending) x (s .8 ∙ sym (take-append-drop (at .machine .objects) (at .committed))) (s .9) (s .10) (lent-done _ _ _ (good (c .before) _ (s .1 .given .1) refl) cl pl call _ (Rule.Write _ _ _) (ap request (s .1 .given .1)) _ _ refl (s .5 .kept .1 .1 .1 .1 .1 .0) (write-follows _ _ _ _ _ _ _ _ _ (s .5 .ensures))))
+    (⊎-elim (λ s. done-same (at .committed) (at .pending) x (s .10) (s .11) (s .12) (lent-done _ _ _ (good (c .before) _ (s .1 .given .1) refl) cl pl call _ (Rule.Commit _) (ap request (s .1 .given .1)) _ _ (s .5 .kept .1 .1 .0) (s .5 .kept .1 .1 .1 .0) (commit-follows _ _ _ _ _ _ _ (s .5 .ensures .0) (s .5 .ensures .1))))
+    (⊎-elim (λ s. done-same (at .committed) (at .pending) x (s .4) (s .5) (s .6) (alone-done _ _ _ (good (c .before) _ (s .1 .given .1) refl) cl pl call _ (Rule.GiveUp _) (ap request (s .1 .given .1)) (give-up-follows _ _ _ _ _ (s .3 .ensures))))
+    (λ s. done-same (at .committed) (at .pending) x (s .4) (s .5) (s .6) (alone-done _ _ _ (good (c .before) _ (s .1 .given .1) refl) cl pl call _ (Rule.Finish _) (ap request (s .1 .given .1)) (finish-follows _ _ _ _ _ (s .3 .ensures))))))))))
     (c .match2 .came)
 
 -- after a line that asks for a call the output is as it was
