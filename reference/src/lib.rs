@@ -3,10 +3,10 @@
 //!
 //! - the machine: `call`, `answer`, `refusal`, `set`, `record`, `sound`,
 //!   `calls`
-//! - the script program: `machine`, `script`
+//! - the script program: `machine`, `script`, `frame`
 //! - whole runs judged from calls and answers: `checker`, `replay`,
 //!   `listed_runs`
-//! - inputs by seed: `random`, `contended`, `scripts`, `shrink`
+//! - inputs by seed: `random`, `contended`, `scripts`, `choices`, `shrink`
 //!
 //! The code says object for card, abort for setback and zombie for marked.
 
@@ -16,8 +16,10 @@ pub mod answer;
 pub mod call;
 pub mod calls;
 pub mod checker;
+pub mod choices;
 pub mod contended;
 mod fewest;
+pub mod frame;
 pub mod listed_runs;
 pub mod machine;
 pub mod random;

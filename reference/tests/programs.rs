@@ -1,5 +1,8 @@
 //! The programs, run as a user runs them.
 
+use cards_reference::choices::count_lines;
+use cards_reference::script::listing_of;
+use cards_reference::scripts::quick_script;
 use std::io::Write;
 use std::process::{Command, Output, Stdio};
 
@@ -47,8 +50,7 @@ fn compare_finds_no_difference_in_the_reference() {
 /// The reference with its listing edited, as a shell command.
 fn compare_edited(edit: &str) -> String {
     let command = format!("\"$0\" | sed '{edit}'");
-    let arguments =
-        ["--trials", "2000", "--seed", "7", "--count", "150", "sh", "-c", &command, REFERENCE];
+    let arguments = ["--quick", "--seed", "7", "--count", "600", "sh", "-c", &command, REFERENCE];
     let output = output(COMPARE, &arguments, b"");
     assert_eq!(output.status.code(), Some(1), "{edit}");
     text(&output)
@@ -58,7 +60,6 @@ fn compare_edited(edit: &str) -> String {
 fn compare_shows_the_shortest_script_of_a_wrong_answer() {
     let text = compare_edited("s/ready -/ready 0/");
     let expected = [
-        "fewest: every smaller choice was tried",
         "listing of the reference:",
         "  line answer value\\n",
         "  2 ready -\\n",
@@ -67,19 +68,42 @@ fn compare_shows_the_shortest_script_of_a_wrong_answer() {
         "  2 ready 0\\n",
     ];
     let lines: Vec<&str> = text.lines().collect();
-    assert!(lines[0].contains("differs; shortest script"), "{text}");
-    assert_eq!(lines.len(), 3 + expected.len(), "{text}");
-    assert_eq!(lines[3..], expected, "{text}");
+    assert!(lines[0].contains(" differs, a script of "), "{text}");
+    assert!(lines[1].starts_with("shortest script, "), "{text}");
+    assert_eq!(lines[4], "fewest: every smaller choice was tried", "{text}");
+    assert!(lines[5].starts_with("choices tried: "), "{text}");
+    assert_eq!(lines[6..], expected, "{text}");
 }
 
 #[test]
 fn compare_shrinks_a_wrong_wait_to_few_lines() {
     let text = compare_edited("s/waits -/committed 0/");
-    let shown = text.split("listing of the reference").next().expect("a script");
     // Names, setup, two jobs, two begins, two touches of a card, one commit.
-    assert_eq!(shown.lines().count(), 1 + 9 + 1, "{text}");
-    assert!(text.contains("\nfound 9 lines; choices of "), "{text}");
-    assert!(text.contains(" lines and more were not all tried\n"), "{text}");
+    assert_eq!(text.lines().filter(|line| line.starts_with("  ")).count(), 9 + 9 + 9, "{text}");
+    assert!(text.contains("\nfewest: every smaller choice was tried\n"), "{text}");
+}
+
+/// The first difference is in the script of the fewest lines that shows one.
+#[test]
+fn compare_takes_scripts_of_few_lines_first() {
+    let text = compare_edited("s/waits -/committed 0/");
+    let waits = |script: &[u8]| String::from_utf8_lossy(&listing_of(script)).contains(" waits -");
+    let scripts = (7..607).map(|seed| (quick_script(seed), seed));
+    let differ = scripts.filter(|(script, _)| waits(script));
+    let first = differ.map(|(script, seed)| (count_lines(&script), seed)).min();
+    let (lines, seed) = first.expect("some script waits");
+    let expected = format!("seed {seed} differs, a script of {lines} lines\n");
+    assert!(text.starts_with(&expected), "{expected}{text}");
+}
+
+/// Too few trials: what is left may not be the fewest lines, and that is said.
+#[test]
+fn compare_owns_up_to_a_search_that_ended_early() {
+    let command = "\"$0\" | sed 's/waits -/committed 0/'";
+    let arguments = ["--trials", "0", "--quick", "--count", "600", "sh", "-c", command, REFERENCE];
+    let (status, text) = compare(&arguments);
+    assert_eq!(status, Some(1));
+    assert!(text.contains(" lines; choices of 0 lines and more were not all tried\n"), "{text}");
 }
 
 #[test]
@@ -123,11 +147,13 @@ fn compare_feeds_pieces() {
     assert_eq!((status, text.starts_with("compared 3 scripts (")), (Some(0), true), "{text}");
     let (status, text) = compare(&["--pieces", "--count", "3", "cat"]);
     assert_eq!(status, Some(1));
-    assert!(text.contains(" differs in pieces of 1 bytes; shortest script"), "{text}");
+    assert!(text.contains(" differs in pieces of 1 bytes, a script of "), "{text}");
 }
 
 #[test]
 fn compare_speaks_frames() {
+    let (status, text) = compare(&["--frames", "--quick", REFERENCE, "frames"]);
+    assert_eq!((status, text.starts_with("compared 1000 scripts (")), (Some(0), true), "{text}");
     // An echo: the frame comes back as it was, and is no listing.
     let (status, text) = compare(&["--frames", "--quick", "cat"]);
     assert_eq!(status, Some(1));

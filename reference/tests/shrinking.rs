@@ -1,16 +1,28 @@
 //! The shrinker, on failures whose shortest script is known.
 
-use cards_reference::shrink::{self, Budget, Shrunk};
+use cards_reference::choices::{count_below, Choices, Counts, Lines};
+use cards_reference::random::Random;
+use cards_reference::shrink::{self, Budget, Shrunk, Trials};
+use std::collections::BTreeSet;
 use std::time::Duration;
 
-/// The shrinker with so many trials.
-fn shrink_within(trials: usize, script: &[u8], fails: &mut dyn FnMut(&[u8]) -> bool) -> Shrunk {
-    shrink::shrink(script, Budget { trials, time: Duration::from_secs(60) }, fails)
+type Fails<'a> = &'a mut dyn FnMut(&[u8]) -> bool;
+
+/// The shrinker with this budget.
+fn shrink_by(budget: Budget, script: &[u8], fails: Fails) -> Shrunk {
+    shrink::shrink(script, budget, &mut |script: &[u8]| fails(script))
 }
 
-/// The shortest script found.
-fn shrink(script: &[u8], fails: &mut dyn FnMut(&[u8]) -> bool) -> Vec<u8> {
-    shrink_within(100_000, script, fails).script
+/// The shrinker with so many trials.
+fn shrink_within(trials: u64, script: &[u8], fails: Fails) -> Shrunk {
+    shrink_by(Budget { trials: Some(trials), time: None }, script, fails)
+}
+
+/// The shortest script: without a budget it is surely one of the fewest lines.
+fn shrink(script: &[u8], fails: Fails) -> Vec<u8> {
+    let shrunk = shrink_by(Budget::default(), script, fails);
+    assert!(shrunk.is_fewest() || shrunk.script == script);
+    shrunk.script
 }
 
 fn holds(script: &[u8], word: &str) -> bool {
@@ -65,7 +77,7 @@ fn the_result_still_fails_and_no_line_can_go() {
         text.lines().filter_map(|line| line.parse::<u64>().ok()).sum()
     };
     let mut fails = |script: &[u8]| sum(script) >= 1_000 && script.len() <= 4_000;
-    let shortest = shrink(&script, &mut fails);
+    let shortest = shrink_within(100_000, &script, &mut fails).script;
     assert!(fails(&shortest));
     let lines: Vec<&[u8]> = shortest.split_inclusive(|&byte| byte == b'\n').collect();
     for place in 0..lines.len() {
@@ -136,9 +148,9 @@ fn too_few_trials_are_owned_up_to() {
 
 #[test]
 fn too_little_time_is_owned_up_to() {
-    let budget = Budget { trials: 100, time: Duration::ZERO };
-    let shrunk = shrink::shrink(TWO_WAYS, budget, &mut two_ways);
-    assert_eq!(shrunk.script, b"a\nb\nc");
+    let budget = Budget { trials: None, time: Some(Duration::ZERO) };
+    let shrunk = shrink_by(budget, TWO_WAYS, &mut two_ways);
+    assert_eq!(shrunk.script, TWO_WAYS);
     assert_eq!((shrunk.tried_below, shrunk.is_fewest()), (0, false));
 }
 
@@ -147,7 +159,100 @@ fn too_little_time_is_owned_up_to() {
 fn equal_choices_are_tried_once() {
     let script = b"x\n".repeat(20);
     let mut fails = |script: &[u8]| script.iter().filter(|&&byte| byte == b'x').count() == 20;
-    assert!(shrink_within(20, &script, &mut fails).is_fewest());
+    let shrunk = shrink_within(20, &script, &mut fails);
+    assert_eq!((shrunk.is_fewest(), shrunk.tried), (true, 20));
+}
+
+/// Up to nine lines, few of them different.
+fn few_lines(random: &mut Random) -> Vec<u8> {
+    let different = 1 + random.below(4);
+    let count = random.below(10);
+    let lines = (0..count).map(|_| format!("{}\n", random.below(different)));
+    lines.collect::<String>().into_bytes()
+}
+
+/// The scripts made by choosing so many lines, found by choosing in every way.
+fn every_choice(script: &[u8], size: usize) -> BTreeSet<Vec<u8>> {
+    let lines: Vec<&[u8]> = script.split_inclusive(|&byte| byte == b'\n').collect();
+    let chosen = |mask: &u32| mask.count_ones() as usize == size;
+    let script_of = |mask: u32| {
+        let kept = lines.iter().enumerate().filter(|(place, _)| mask >> place & 1 == 1);
+        kept.flat_map(|(_, line)| line.to_vec()).collect()
+    };
+    (0..1 << lines.len()).filter(chosen).map(script_of).collect()
+}
+
+#[test]
+fn different_choices_come_once_and_are_counted() {
+    let mut random = Random::new(1);
+    for _ in 0..300 {
+        let script = few_lines(&mut random);
+        let lines = Lines::of(&script);
+        let mut below = 0;
+        for (size, count) in Counts::of(&lines).take(11).enumerate() {
+            let expected = every_choice(&script, size);
+            let choices: Vec<Vec<u8>> = Choices::of(&lines, size).collect();
+            assert_eq!(choices.iter().cloned().collect::<BTreeSet<_>>(), expected);
+            assert_eq!((choices.len(), count), (expected.len(), expected.len() as u64));
+            assert_eq!(count_below(&script, size), below);
+            below += count;
+        }
+    }
+}
+
+#[test]
+fn too_many_choices_are_not_counted() {
+    let script: Vec<u8> = (0..1_000).flat_map(|n: u32| format!("{n}\n").into_bytes()).collect();
+    assert_eq!(count_below(&script, 4), 1 + 1_000 + 499_500 + 166_167_000);
+    assert_eq!(count_below(&script, 500), u64::MAX);
+    let lines = Lines::of(&script);
+    assert_eq!(Counts::of(&lines).take(500).last(), Some(u64::MAX));
+    assert_eq!(count_below(&b"\n".repeat(100_000), 100_000), u64::MAX);
+}
+
+/// Nothing is assumed of what makes a script fail: here it is a number that
+/// depends on every byte.
+#[test]
+fn without_a_budget_the_fewest_are_found() {
+    let mut random = Random::new(2);
+    for seed in 0..300 {
+        let script = few_lines(&mut random);
+        let mut fails = |part: &[u8]| {
+            let digest = part.iter().fold(seed, |d, &b| Random::new(d ^ u64::from(b)).bits());
+            part == script || (part.ends_with(b"\n") && digest % 20 == 0)
+        };
+        let failing = (0..).find(|&size| every_choice(&script, size).iter().any(|s| fails(s)));
+        let shrunk = shrink_by(Budget::default(), &script, &mut fails);
+        assert!(fails(&shrunk.script));
+        assert_eq!((Some(shrunk.lines()), shrunk.is_fewest()), (failing, true));
+    }
+}
+
+/// Ten lines of twenty; what a search was told before.
+struct Ten(Vec<(usize, u64)>);
+
+fn lines_of(script: &[u8]) -> usize {
+    script.iter().filter(|&&byte| byte == b'\n').count()
+}
+
+impl Trials for Ten {
+    fn first_failing(&mut self, scripts: &[Vec<u8>]) -> Option<usize> {
+        scripts.iter().position(|script| lines_of(script) >= 10)
+    }
+
+    fn before_long_search(&mut self, shortest: &[u8], choices: u64) {
+        self.0.push((lines_of(shortest), choices));
+    }
+}
+
+#[test]
+fn a_long_search_is_told_before() {
+    let script: Vec<u8> = (b'a'..b'u').flat_map(|letter| [letter, b'\n']).collect();
+    let mut ten = Ten(Vec::new());
+    let shrunk = shrink::shrink(&script, Budget::default(), &mut ten);
+    assert_eq!((shrunk.lines(), shrunk.is_fewest()), (10, true));
+    assert_eq!(ten.0, [(10, 431_910)]);
+    assert!(shrunk.tried >= 431_910);
 }
 
 /// A script fails if its numbers sum up to 100, or to 60. No stretch, no line

@@ -1,8 +1,10 @@
 //! A program that takes many scripts, one frame each, and answers each with a
-//! frame. A frame is the length in four bytes, the lowest first, and the bytes.
+//! frame.
 
 use crate::subject::{end_by, no_end, Subject, Told};
-use std::io::{self, BufReader, BufWriter, Error, ErrorKind, Read, Write};
+use cards_reference::frame::{read_frame, write_frame};
+use cards_reference::script::listing_of;
+use std::io::{self, BufReader, BufWriter, Read, Write};
 use std::process::{Child, ChildStdin, ChildStdout, Command, Stdio};
 use std::sync::mpsc::{channel, Receiver, RecvTimeoutError, Sender};
 use std::thread;
@@ -26,10 +28,7 @@ struct Running {
 
 impl Subject for Frames {
     fn listing(&mut self, script: &[u8], _expected: usize) -> io::Result<Told> {
-        let running = match self.running.take() {
-            Some(running) => running,
-            None => start(&self.program)?,
-        };
+        let running = self.running()?;
         // A failed send shows as a missing answer.
         let _ = running.scripts.send(script.to_vec());
         Ok(match running.listings.recv_timeout(self.limit) {
@@ -45,6 +44,17 @@ impl Subject for Frames {
         })
     }
 
+    /// All scripts are sent before the first answer is awaited, so that the
+    /// program and the reference work side by side. Without an answer it is not
+    /// known which script is at fault; the rest are then given one by one.
+    fn first_difference(&mut self, scripts: &[Vec<u8>]) -> io::Result<Option<usize>> {
+        let together = if scripts.len() > 1 { self.together(scripts)? } else { Err(0) };
+        match together {
+            Ok(first) => Ok(first),
+            Err(agreed) => self.one_by_one(scripts, agreed),
+        }
+    }
+
     fn finish(&mut self) -> io::Result<Result<(), String>> {
         let Some(running) = self.running.take() else {
             return Ok(Ok(()));
@@ -57,6 +67,41 @@ impl Subject for Frames {
 impl Frames {
     pub fn new(program: Vec<String>, limit: Duration) -> Frames {
         Frames { program, limit, running: None }
+    }
+
+    fn running(&mut self) -> io::Result<Running> {
+        match self.running.take() {
+            Some(running) => Ok(running),
+            None => start(&self.program),
+        }
+    }
+
+    /// The place of the first script on which the program does not agree; or,
+    /// if an answer fails to come, the number of those on which it does.
+    fn together(&mut self, scripts: &[Vec<u8>]) -> io::Result<Result<Option<usize>, usize>> {
+        let running = self.running()?;
+        for script in scripts {
+            let _ = running.scripts.send(script.clone());
+        }
+        for (place, script) in scripts.iter().enumerate() {
+            let expected = listing_of(script);
+            let listing = running.listings.recv_timeout(self.limit);
+            if listing.as_ref() != Ok(&expected) {
+                end(running, Duration::ZERO)?;
+                return Ok(if listing.is_ok() { Ok(Some(place)) } else { Err(place) });
+            }
+        }
+        self.running = Some(running);
+        Ok(Ok(None))
+    }
+
+    fn one_by_one(&mut self, scripts: &[Vec<u8>], from: usize) -> io::Result<Option<usize>> {
+        for place in from..scripts.len() {
+            if !self.agrees(&scripts[place])? {
+                return Ok(Some(place));
+            }
+        }
+        Ok(None)
     }
 }
 
@@ -102,10 +147,10 @@ fn end(running: Running, patience: Duration) -> io::Result<(bool, String)> {
 fn write_frames(input: ChildStdin, scripts: &Receiver<Vec<u8>>) -> io::Result<()> {
     let mut input = BufWriter::new(input);
     for script in scripts {
-        let length =
-            u32::try_from(script.len()).map_err(|_| Error::from(ErrorKind::InvalidInput))?;
-        input.write_all(&length.to_le_bytes())?;
-        input.write_all(&script)?;
+        write_frame(&mut input, &script)?;
+        for script in scripts.try_iter() {
+            write_frame(&mut input, &script)?;
+        }
         input.flush()?;
     }
     Ok(())
@@ -113,16 +158,10 @@ fn write_frames(input: ChildStdin, scripts: &Receiver<Vec<u8>>) -> io::Result<()
 
 fn read_frames(output: ChildStdout, listings: &Sender<Vec<u8>>) -> io::Result<()> {
     let mut output = BufReader::new(output);
-    loop {
-        let mut length = [0; 4];
-        output.read_exact(&mut length)?;
-        let length = u64::from(u32::from_le_bytes(length));
-        let mut listing = Vec::new();
-        if (&mut output).take(length).read_to_end(&mut listing)? as u64 != length {
-            return Err(ErrorKind::UnexpectedEof.into());
-        }
+    while let Some(listing) = read_frame(&mut output)? {
         if listings.send(listing).is_err() {
             return Ok(());
         }
     }
+    Ok(())
 }

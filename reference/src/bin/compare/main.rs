@@ -1,8 +1,8 @@
 //! `compare [OPTIONS] PROGRAM [ARGS..]`: runs the program on scripts made by
-//! seed and compares its listings with the reference's. At the first
-//! difference it prints the shortest script found that shows one, whether no
-//! fewer lines do, and both listings, and ends with status 1. A program that
-//! does not end in time, or ends badly, differs too.
+//! seed, those of the fewest lines first, and compares its listings with the
+//! reference's. At the first difference it prints a script of the fewest lines
+//! that show one and both listings, and ends with status 1. A program that does
+//! not end in time, or ends badly, differs too.
 
 #![forbid(unsafe_code)]
 
@@ -10,14 +10,14 @@ mod feed;
 mod frames;
 mod once;
 mod options;
+mod order;
 mod report;
 mod subject;
 
-use cards_reference::script::listing_of;
 use options::{options, Options, USAGE};
+use order::Seeded;
 use std::io;
 use std::process::ExitCode;
-use subject::Subject;
 
 /// Scripts longer than this are not fed in pieces.
 const PIECES_UP_TO: usize = 1_500;
@@ -25,72 +25,51 @@ const PIECES_UP_TO: usize = 1_500;
 /// Piece sizes: 1 up to a little more than a line may have.
 const PIECE_SIZES: std::ops::RangeInclusive<usize> = 1..=66;
 
-/// What was compared so far.
-#[derive(Default)]
-struct Tally {
-    scripts: u64,
-    lines: usize,
-}
-
-impl Tally {
-    fn add(&mut self, script: &[u8]) {
-        self.scripts += 1;
-        self.lines += script.split_inclusive(|&byte| byte == b'\n').count();
-    }
-}
-
-/// Whether the program's listing of the script is the reference's.
-fn same(subject: &mut dyn Subject, script: &[u8]) -> io::Result<bool> {
-    let expected = listing_of(script);
-    Ok(subject.listing(script, expected.len())? == Ok(expected))
-}
-
-/// Compares the scripts of so many seeds, each as a whole.
-fn compare_whole(options: &Options) -> io::Result<Option<Tally>> {
+/// Compares the scripts, each as a whole. Whether no difference is found.
+fn compare_whole(options: &Options, ordered: &[Seeded]) -> io::Result<bool> {
     let mut subject = options.subject();
-    let mut tally = Tally::default();
-    for seed in options.seed..options.seed.saturating_add(options.count) {
-        let script = options.script(seed);
-        if !same(&mut *subject, &script)? {
-            report::difference(options, seed, &script)?;
-            return Ok(None);
+    for batch in order::batches(ordered) {
+        let scripts: Vec<Vec<u8>> = batch.iter().map(|seeded| options.script(seeded.seed)).collect();
+        if let Some(place) = subject.first_difference(&scripts)? {
+            report::difference(options, batch[place].seed, &scripts[place])?;
+            return Ok(false);
         }
-        tally.add(&script);
     }
     if let Err(fault) = subject.finish()? {
         println!("after the last script {}: {fault}", options.program[0]);
-        return Ok(None);
+        return Ok(false);
     }
-    Ok(Some(tally))
+    Ok(true)
 }
 
-/// Compares so many short scripts, each in pieces of every size.
-fn compare_pieces(options: &mut Options) -> io::Result<Option<Tally>> {
-    let mut tally = Tally::default();
-    let mut seed = options.seed;
-    while tally.scripts < options.count {
+/// Compares the scripts, each in pieces of every size. Whether no difference is
+/// found.
+fn compare_pieces(options: &mut Options, ordered: &[Seeded]) -> io::Result<bool> {
+    for &Seeded { seed, .. } in ordered {
         let script = options.script(seed);
-        if script.len() <= PIECES_UP_TO {
-            for size in PIECE_SIZES {
-                options.piece = Some(size);
-                if !same(&mut *options.subject(), &script)? {
-                    report::difference(options, seed, &script)?;
-                    return Ok(None);
-                }
+        for size in PIECE_SIZES {
+            options.piece = Some(size);
+            if !options.subject().agrees(&script)? {
+                report::difference(options, seed, &script)?;
+                return Ok(false);
             }
-            tally.add(&script);
         }
-        seed += 1;
     }
-    Ok(Some(tally))
+    Ok(true)
 }
 
 fn compare(options: &mut Options) -> io::Result<ExitCode> {
-    let done = if options.pieces { compare_pieces(options)? } else { compare_whole(options)? };
-    let Some(Tally { scripts, lines }) = done else {
-        return Ok(ExitCode::from(1));
+    let most = if options.pieces { PIECES_UP_TO } else { usize::MAX };
+    let ordered = order::fewest_lines_first(options, most);
+    let alike = match options.pieces {
+        true => compare_pieces(options, &ordered)?,
+        false => compare_whole(options, &ordered)?,
     };
-    println!("compared {scripts} scripts ({lines} lines), no difference");
+    if !alike {
+        return Ok(ExitCode::from(1));
+    }
+    let lines: usize = ordered.iter().map(|seeded| seeded.lines).sum();
+    println!("compared {} scripts ({lines} lines), no difference", ordered.len());
     Ok(ExitCode::SUCCESS)
 }
 

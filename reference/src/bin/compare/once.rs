@@ -5,10 +5,15 @@ use crate::feed::feed;
 use crate::subject::{end_by, most, no_end, Subject, Told};
 use std::io::{self, Read};
 use std::process::{ChildStdout, Command, Stdio};
+use std::sync::atomic::{AtomicUsize, Ordering};
 use std::sync::mpsc::{channel, Receiver};
 use std::thread;
 use std::time::{Duration, Instant};
 
+/// So many programs run at once.
+const AT_ONCE: usize = 2;
+
+#[derive(Clone)]
 pub struct Once {
     pub program: Vec<String>,
     pub limit: Duration,
@@ -38,6 +43,38 @@ impl Subject for Once {
             (Ok(_), Some(status)) => Err(format!("ended with {status}")),
             _ => Err(no_end(self.limit)),
         })
+    }
+
+    fn first_difference(&mut self, scripts: &[Vec<u8>]) -> io::Result<Option<usize>> {
+        let next = AtomicUsize::new(0);
+        let first = AtomicUsize::new(scripts.len());
+        thread::scope(|scope| {
+            let start = |_| scope.spawn(|| self.clone().take_turns(scripts, &next, &first));
+            let workers: Vec<_> = (0..AT_ONCE.min(scripts.len())).map(start).collect();
+            workers.into_iter().try_for_each(|worker| worker.join().expect("no worker panics"))
+        })?;
+        let first = first.into_inner();
+        Ok((first < scripts.len()).then_some(first))
+    }
+}
+
+impl Once {
+    /// Tries the next script until all before the first difference are taken.
+    fn take_turns(
+        &mut self,
+        scripts: &[Vec<u8>],
+        next: &AtomicUsize,
+        first: &AtomicUsize,
+    ) -> io::Result<()> {
+        loop {
+            let place = next.fetch_add(1, Ordering::SeqCst);
+            if place >= first.load(Ordering::SeqCst) {
+                return Ok(());
+            }
+            if !self.agrees(&scripts[place])? {
+                first.fetch_min(place, Ordering::SeqCst);
+            }
+        }
     }
 }
 

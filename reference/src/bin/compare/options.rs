@@ -4,6 +4,7 @@ use crate::frames::Frames;
 use crate::once::Once;
 use crate::subject::Subject;
 use cards_reference::scripts::{quick_script, script};
+use cards_reference::shrink::Budget;
 use std::time::Duration;
 
 pub const USAGE: &str = "usage: compare [--seed S] [--count N] [--limit SECONDS] [--trials T] \
@@ -14,10 +15,8 @@ pub struct Options {
     pub count: u64,
     /// How long the program may take for one script.
     pub limit: Duration,
-    /// How many choices of lines may be tried for the fewest that differ.
-    pub trials: usize,
-    /// How long the search for them may take.
-    pub search: Duration,
+    /// What the search for the fewest lines that differ may cost.
+    pub budget: Budget,
     /// Most scripts are short.
     pub quick: bool,
     /// Standard input comes in pieces; scripts are short.
@@ -35,8 +34,7 @@ impl Options {
             seed: 1,
             count: 1_000,
             limit: Duration::from_secs(10),
-            trials: 100_000,
-            search: Duration::from_secs(60),
+            budget: Budget::default(),
             quick: false,
             pieces: false,
             piece: None,
@@ -78,8 +76,8 @@ pub fn options(mut arguments: impl Iterator<Item = String>) -> Option<Options> {
             "--seed" => options.seed = arguments.next()?.parse().ok()?,
             "--count" => options.count = arguments.next()?.parse().ok()?,
             "--limit" => options.limit = seconds(arguments.next())?,
-            "--trials" => options.trials = arguments.next()?.parse().ok()?,
-            "--search" => options.search = seconds(arguments.next())?,
+            "--trials" => options.budget.trials = Some(arguments.next()?.parse().ok()?),
+            "--search" => options.budget.time = Some(seconds(arguments.next())?),
             "--quick" => options.quick = true,
             "--pieces" => options.pieces = true,
             "--frames" => options.frames = true,

@@ -1,26 +1,30 @@
 //! The first difference, shrunk and printed.
 
 use crate::options::Options;
-use crate::same;
+use crate::subject::Subject;
+use cards_reference::choices::count_lines;
 use cards_reference::script::listing_of;
-use cards_reference::shrink::{shrink, Budget, Shrunk};
+use cards_reference::shrink::{shrink, Shrunk, Trials};
 use std::io;
-use std::time::Duration;
+use std::time::{Duration, Instant};
 
 /// How long a script may take while a script that takes too long is shrunk.
 const SHRINKING_LIMIT: Duration = Duration::from_secs(1);
 
 /// Shrinks a script that shows a difference, and prints what is left.
 pub fn difference(options: &Options, seed: u64, found: &[u8]) -> io::Result<()> {
-    let shrunk = shortest(options, found)?;
-    let shortest = &shrunk.script;
     print!("seed {seed} differs");
     if let Some(size) = options.piece {
         print!(" in pieces of {size} bytes");
     }
-    println!("; shortest script, {} bytes:", shortest.len());
+    println!(", a script of {} lines", count_lines(found));
+    let start = Instant::now();
+    let shrunk = shortest(options, found)?;
+    let shortest = &shrunk.script;
+    println!("shortest script, {} bytes:", shortest.len());
     print_bytes(shortest);
     println!("{}", how_sure(&shrunk));
+    println!("choices tried: {} in {:.1} s", shrunk.tried, start.elapsed().as_secs_f32());
     let expected = listing_of(shortest);
     println!("listing of the reference:");
     print_bytes(&expected);
@@ -35,18 +39,35 @@ pub fn difference(options: &Options, seed: u64, found: &[u8]) -> io::Result<()> 
     Ok(())
 }
 
-/// The shortest script found. A script is given less time while there is more
-/// to cut; if what is left is only slow, the given script comes back.
+/// A script fails if the program differs on it.
+struct Differs(Box<dyn Subject>);
+
+impl Trials for Differs {
+    /// A program that cannot be started does not differ.
+    fn first_failing(&mut self, scripts: &[Vec<u8>]) -> Option<usize> {
+        self.0.first_difference(scripts).unwrap_or(None)
+    }
+
+    fn before_long_search(&mut self, shortest: &[u8], choices: u64) {
+        println!("shortest script so far, {} lines:", count_lines(shortest));
+        print_bytes(shortest);
+        match choices {
+            u64::MAX => println!("choices of fewer lines to be tried: too many to count"),
+            _ => println!("choices of fewer lines to be tried: {choices}"),
+        }
+    }
+}
+
+/// The shortest script. A script is given less time while there is more to cut;
+/// if what is left is only slow, the given script comes back.
 fn shortest(options: &Options, found: &[u8]) -> io::Result<Shrunk> {
     let mut subject = options.subject();
     let hangs = subject.listing(found, listing_of(found).len())?.is_err();
     if hangs {
         subject = options.within(options.limit.min(SHRINKING_LIMIT));
     }
-    let budget = Budget { trials: options.trials, time: options.search };
-    let mut differs = |script: &[u8]| matches!(same(&mut *subject, script), Ok(false));
-    let shrunk = shrink(found, budget, &mut differs);
-    let shows = !same(&mut *options.subject(), &shrunk.script)?;
+    let shrunk = shrink(found, options.budget, &mut Differs(subject));
+    let shows = !options.subject().agrees(&shrunk.script)?;
     Ok(if shows { shrunk } else { Shrunk::untried(found) })
 }
 

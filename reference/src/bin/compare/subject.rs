@@ -1,5 +1,6 @@
 //! The program under test.
 
+use cards_reference::script::listing_of;
 use std::io;
 use std::process::{Child, ExitStatus};
 use std::thread;
@@ -16,6 +17,15 @@ pub trait Subject {
     /// What it makes of a script whose listing should have so many bytes. An
     /// error says that it could not be started.
     fn listing(&mut self, script: &[u8], expected: usize) -> io::Result<Told>;
+
+    /// Whether its listing of the script is the reference's.
+    fn agrees(&mut self, script: &[u8]) -> io::Result<bool> {
+        let expected = listing_of(script);
+        Ok(self.listing(script, expected.len())? == Ok(expected))
+    }
+
+    /// The place of the first script on which it does not agree.
+    fn first_difference(&mut self, scripts: &[Vec<u8>]) -> io::Result<Option<usize>>;
 
     /// Ends a program that takes many scripts; says what was wrong with its
     /// end.
