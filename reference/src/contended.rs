@@ -76,6 +76,16 @@ impl Contention {
         Contention::shaped(Random::new(seed), cores, objects)
     }
 
+    /// Chooses a small machine and short attempts by the seed: in few calls
+    /// there is a wait or a setback.
+    pub fn small(seed: u64) -> Contention {
+        let mut random = Random::new(seed);
+        let cores = *random.pick(&[1, 2, 2, 2, 2, 3]);
+        let objects = *random.pick(&[1, 1, 2]);
+        let length = 1 + random.below(2);
+        Contention { length, ..Contention::shaped(random, cores, objects) }
+    }
+
     fn shaped(mut random: Random, cores: u32, objects: u32) -> Contention {
         let even = random.percent(30);
         Contention {

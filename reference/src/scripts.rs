@@ -21,6 +21,9 @@ const LONGEST_LINE: usize = 200_000;
 /// and fewer in most quick scripts.
 const QUICK_LINE: usize = 300;
 
+/// So many calls, with names and setup 16 lines, are few.
+const FEW_CALLS: usize = 14;
+
 /// The 24 orders of the names, each as places in the order call, core, card,
 /// value.
 pub fn orders() -> Vec<[usize; 4]> {
@@ -57,10 +60,11 @@ pub fn script(seed: u64) -> Vec<u8> {
         1 => lines[0] = spoil::bad_names(&mut random, &lines[0]),
         _ => {}
     }
-    for _ in 0..1 + random.below(3) {
-        let calls = body(&mut random);
-        lines.extend(calls.into_iter().map(|call| arrange(order, &print_call(call))));
-    }
+    let calls = match random.below(10) {
+        0 => few_calls(&mut random),
+        _ => (0..1 + random.below(3)).flat_map(|_| body(&mut random)).collect(),
+    };
+    lines.extend(calls.into_iter().map(|call| arrange(order, &print_call(call))));
     if random.percent(50) {
         let share = *random.pick(&[2, 10, 50]);
         spoil::some_lines(&mut random, share, LONGEST_LINE, &mut lines);
@@ -69,7 +73,7 @@ pub fn script(seed: u64) -> Vec<u8> {
 }
 
 /// The script of this seed, quickly run: most have few lines, one in 300 has
-/// thousands, up to 20,000.
+/// thousands, up to 20,000, and one in five has fewer than 20.
 pub fn quick_script(seed: u64) -> Vec<u8> {
     let mut random = Random::new(seed);
     let order = *random.pick(&orders());
@@ -100,11 +104,12 @@ fn quick_calls(random: &mut Random) -> Vec<Call> {
     match random.below(300) {
         0 => {
             let length = *random.pick(&[1_998, 4_998, 9_998, 19_998]);
-            contended_run(random.bits(), length)
+            contended_run(Contention::new(random.bits()), length)
         }
         1..=15 => contended(random, 1_000),
         16..=40 => (0..random.below(40)).map(|_| any_call(random)).collect(),
         41..=80 => [contended(random, 30), contended(random, 30)].concat(),
+        81..=140 => few_calls(random),
         _ => contended(random, 90),
     }
 }
@@ -120,13 +125,63 @@ fn body(random: &mut Random) -> Vec<Call> {
 
 /// A setup and a contended run after it, of fewer calls than this.
 fn contended(random: &mut Random, most: u32) -> Vec<Call> {
-    let seed = random.bits();
-    contended_run(seed, random.below(most) as usize)
+    let contention = Contention::new(random.bits());
+    contended_run(contention, random.below(most) as usize)
+}
+
+/// Few calls, so that a script that shows a fault has few lines to choose from.
+fn few_calls(random: &mut Random) -> Vec<Call> {
+    let length = 1 + random.place(FEW_CALLS);
+    match random.below(5) {
+        0 => full_list(random, length),
+        1 => struck_in_turn(random),
+        _ => contended_run(Contention::small(random.bits()), length),
+    }
+}
+
+/// A setup and jobs, until the list of a core is full.
+fn full_list(random: &mut Random, length: usize) -> Vec<Call> {
+    let mut calls = vec![Call::Setup { cores: 1, objects: 1 }];
+    calls.extend((0..length).map(|_| match random.below(12) {
+        0 => Call::Begin { core: 0 },
+        1 => Call::Finish { core: 0 },
+        2 => Call::GiveUp { core: 0 },
+        _ => Call::Release { core: 0, job: random.below(9) as u16, deadline: random.below(9) },
+    }));
+    calls
+}
+
+/// A setup and a late transaction that one or two earlier ones set back, each
+/// with its commit; in half of the cases a call more at any place.
+fn struck_in_turn(random: &mut Random) -> Vec<Call> {
+    let late = 1 + random.below(2);
+    let mut calls = vec![Call::Setup { cores: late + 1, objects: 1 }];
+    for core in 0..=late {
+        calls.extend([Call::Release { core, job: 7, deadline: 9 }, Call::Begin { core }]);
+    }
+    for core in 0..late {
+        let value = 1 + random.below(9);
+        let touch = match random.below(2) {
+            0 => Call::Read { core: late, object: 0 },
+            _ => Call::Write { core: late, object: 0, value },
+        };
+        calls.extend([Call::Write { core, object: 0, value }, touch, Call::Commit { core }, touch]);
+    }
+    calls.push(Call::Commit { core: late });
+    if random.percent(50) {
+        let more = match random.below(5) {
+            0 => Call::Begin { core: random.below(late + 1) },
+            1 => Call::Commit { core: late },
+            2 => Call::GiveUp { core: random.below(late + 1) },
+            _ => Call::Read { core: late, object: random.below(2) },
+        };
+        calls.insert(random.place(calls.len() + 1), more);
+    }
+    calls
 }
 
 /// A setup and a contended run of so many calls.
-fn contended_run(seed: u64, length: usize) -> Vec<Call> {
-    let mut contention = Contention::new(seed);
+fn contended_run(mut contention: Contention, length: usize) -> Vec<Call> {
     let mut calls = vec![Call::Setup { cores: contention.cores, objects: contention.objects }];
     let run = contention.run(&mut Machine::blank(), length);
     calls.extend(run.steps.into_iter().map(|(call, _)| call));

@@ -29,7 +29,8 @@ const PIECE_SIZES: std::ops::RangeInclusive<usize> = 1..=66;
 fn compare_whole(options: &Options, ordered: &[Seeded]) -> io::Result<bool> {
     let mut subject = options.subject();
     for batch in order::batches(ordered) {
-        let scripts: Vec<Vec<u8>> = batch.iter().map(|seeded| options.script(seeded.seed)).collect();
+        let scripts: Vec<Vec<u8>> =
+            batch.iter().map(|seeded| options.script(seeded.seed)).collect();
         if let Some(place) = subject.first_difference(&scripts)? {
             report::difference(options, batch[place].seed, &scripts[place])?;
             return Ok(false);

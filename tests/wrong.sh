@@ -1,0 +1,76 @@
+#!/usr/bin/env bash
+# wrong.sh [SEED [COUNT [OPTIONS..]]]: wrong copies of the reference, each compared with the reference on COUNT quick scripts from the
+# seed SEED on; OPTIONS go to `compare`. A line for each copy: what is altered, lines of the first script that differs, lines that are
+# left of it, choices of lines tried, seconds, whether surely no fewer lines differ. The copies keep of the standing rules only the
+# range of cores and cards, so that a fault shows as what it is and not as refusal 2.
+set -eu
+cd "$(dirname "$0")/.."
+seed=${1:-1}
+count=${2:-20000}
+shift $(($# < 2 ? $# : 2))
+work=$(mktemp -d)
+trap 'rm -rf "$work"' EXIT
+cargo build --quiet --release --offline --manifest-path reference/Cargo.toml
+unsure=0
+
+# wrong NAME FILE EDIT [FILE EDIT]..: a copy in which sed has edited files of src/, compared
+wrong() {
+  local name=$1 copy=$work/copy
+  shift
+  rm -rf "$copy"
+  mkdir "$copy"
+  cp -r reference/Cargo.toml reference/Cargo.lock reference/src "$copy"
+  sed -i '/^    ("/{/counts in range/!d}; s/\[Rule; 12\]/[Rule; 1]/' "$copy/src/sound.rs"
+  while [ $# -gt 0 ]; do
+    sed -i "$2" "$copy/src/$1"
+    ! cmp -s "reference/src/$1" "$copy/src/$1" || { echo "$name: nothing is altered in $1"; exit 1; }
+    shift 2
+  done
+  RUSTFLAGS=-Awarnings cargo build --quiet --release --offline --manifest-path "$copy/Cargo.toml" --target-dir "$work/target" \
+    --bin cards-reference
+  reference/target/release/compare --frames --quick --seed "$seed" --count "$count" "${options[@]}" \
+    "$work/target/release/cards-reference" frames > "$work/report" || true
+  awk -v name="$name" '
+    / differs, a script of / { lines = $(NF - 1) }
+    /^shortest script, / { script = 1; left = 0; next }
+    script && /^  / { left++; next }
+    script { script = 0 }
+    /^fewest: every smaller choice was tried$/ { sure = "sure" }
+    /^found / { sure = "not sure" }
+    /^choices tried: / { tried = $3; seconds = $5 }
+    /no difference$/ { sure = "no difference" }
+    END { printf "| %s | %s | %s | %s | %s | %s |\n", name, lines, left, tried, seconds, sure; exit sure != "sure" }
+  ' "$work/report" || unsure=$((unsure + 1))
+}
+options=("$@")
+
+commit=calls/commit.rs
+transaction=calls/transaction.rs
+wrong "a set-back transaction gets a new ticket" $commit 's/other.aborts += 1;/& other.ticket = self.tickets; self.tickets += 1;/'
+wrong "only write sets conflict" record.rs 's/self.write_set & other.data_set() != 0 || .*/self.write_set \& other.write_set != 0/'
+wrong "only writers are struck" $commit 's/other.data_set() & write_set/other.write_set \& write_set/'
+wrong "no tickets are compared" $commit 's/other.ticket < own.ticket/false/'
+wrong "a marked transaction keeps its sets" $commit '/other.*_set = 0;/d' \
+  $transaction 's/self.core\[core\].zombie = false;/& self.core[core].read_set = 0; self.core[core].write_set = 0;/'
+wrong "a commit counts twice" $commit 's/other.aborts += 1/other.aborts += 2/'
+wrong "every commit waits" $commit 's/= self.earlier_in_conflict(c)/= Some(0)/'
+wrong "waits for later ones too" $commit 's/other.ticket < own.ticket/other.ticket != own.ticket/'
+wrong "waits for cores 0 and 1 only" $commit 's/self.present().iter().position/self.present().iter().take(2).position/'
+wrong "value 0 always" $transaction 's/let value = .*/let value = 0;/'
+wrong "no card is moved" $commit '/committed\[object\] = /d'
+wrong "one setback is invented" $commit 's/Committed(ending.aborts)/Committed(ending.aborts + 1)/'
+wrong "a second setback is not counted" $commit 's/other.aborts += 1/other.aborts = 1/'
+wrong "a read misses its own write" $transaction 's/let own = .*/let own = false;/'
+wrong "a write is no touch" record.rs 's/self.read_set | self.write_set/self.read_set/'
+wrong "a refused call takes the mark away" $transaction \
+  '/self.admit_access/,/};/s/Err(number) => /&{ self.core[core as usize % 16].zombie = false; /; /self.admit_access/,/};/s/self),/self); }/'
+wrong "refusal 9 before 5" $transaction '/let d = self.admit_object(object)?;/d; s/self.admit_in_progress(c)?;/&let d = 0;/' \
+  $transaction '/let d = 0;/{N;s/let d = 0;\n *Ok((c, d))/let d = self.admit_object(object)?; Ok((c, d))/;s/let d = 0;//}'
+wrong "a ninth job joins" record.rs 's/MAX_JOBS: usize = 8/MAX_JOBS: usize = 9/'
+wrong "the last of equal deadlines runs" record.rs 's/(0..jobs.len()).min_by_key/(0..jobs.len()).rev().min_by_key/'
+wrong "a job takes over from a transaction" record.rs 's/if self.in_progress/if false/'
+wrong "setup keeps the committed values" calls/setup.rs '/committed.fill(0);/d'
+wrong "a line of 64 bytes is too long" script/lines.rs 's/MAX_LINE: usize = 64/MAX_LINE: usize = 63/'
+wrong "a leading zero is let through" script/parse.rs 's/leading_zero || //'
+
+[ "$unsure" -eq 0 ] || { echo "not sure: $unsure"; exit 1; }
