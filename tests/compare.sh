@@ -31,14 +31,28 @@ by_reference() { "$bin/cards-reference"; }
 by_cards() { "$cards"; }
 by_entry() { "$host" run "$1"; }
 
-# the comparison of two programs by seeded scripts finds nothing between the reference and itself,
-compares_alike() {
-  "$bin/compare" --seed 1 --count 300 "$bin/cards-reference"
+# compares OPTIONS.. PROGRAM..: a difference ends the gate in some minutes, though the fewest lines that show it may take longer to find
+compares() {
+  "$bin/compare" --search 600 "$@"
 }
 
-# and finds the fault of a program that forgets the last line
+# the comparison of two programs by seeded scripts finds nothing between the reference and itself,
+compares_alike() {
+  compares --seed 1 --count 300 "$bin/cards-reference"
+}
+
+# and finds the fault of a program that forgets the last line, which empty input shows,
 finds_a_fault() {
-  ! "$bin/compare" --seed 1 --count 300 sh -c "$bin/cards-reference | sed '\$d'" > "$work/fault" 2>&1
+  ! compares --seed 1 --count 300 sh -c "$bin/cards-reference | sed '\$d'" > "$work/fault" 2>&1 \
+    && grep -A1 '^shortest script, 0 bytes:$' "$work/fault" | grep -qx 'fewest: every smaller choice was tried'
+}
+
+# and of one that says finished for ended, which five lines show and no four of them
+finds_the_fewest() {
+  ! compares --quick --seed 1 --count 2000 sh -c "$bin/cards-reference | sed 's/ended/finished/'" > "$work/fault" 2>&1 \
+    && grep -qx 'fewest: every smaller choice was tried' "$work/fault" \
+    && sed '/^shortest script/,/^fewest/!d' "$work/fault" | grep -oE '\<(call|setup|release|begin|giveup)\>|^  ' > "$work/words" \
+    && [ "$(tr -d '\n' < "$work/words")" = "  call  setup  release  begin  giveup" ]
 }
 
 # the claims of demands 2 and 3 on contended runs of the reference
@@ -109,13 +123,14 @@ archive_is_plain() {
 check "examples by the reference" prints_examples by_reference
 check "the reference against itself" compares_alike
 check "a fault is found" finds_a_fault
+check "the fewest lines are found" finds_the_fewest
 check "claims on contended runs" claims_hold
 check "claims on case A" claims_hold_on_case_a
 
 check "examples by cards" prints_examples by_cards
-check "cards, scripts of any length" "$bin/compare" --limit 60 --seed 1 --count 300 "$cards"
-check "cards, quick scripts" "$bin/compare" --quick --seed 1 --count $scripts "$cards"
-check "cards, input in pieces" "$bin/compare" --pieces --seed 1 --count 100 "$cards"
+check "cards, scripts of any length" compares --limit 60 --seed 1 --count 300 "$cards"
+check "cards, quick scripts" compares --quick --seed 1 --count $scripts "$cards"
+check "cards, input in pieces" compares --pieces --seed 1 --count 100 "$cards"
 check "cards, a million lines" by_the_million by_cards
 check "cards, constant memory" streams
 check "cards, an input without end" stops
@@ -126,12 +141,12 @@ check "C entry: the archive and its host" make --no-print-directory host
 check "C entry: an archive without needs or variables" archive_is_plain
 check "C entry: known calls" "$host" selftest
 check "examples by the C entry" prints_examples by_entry
-check "C entry, scripts of any length" "$bin/compare" --frames --limit 60 --seed 1 --count 300 "$host" frames
-check "C entry, quick scripts" "$bin/compare" --frames --quick --seed 1 --count $scripts "$host" frames
+check "C entry, scripts of any length" compares --frames --limit 60 --seed 1 --count 300 "$host" frames
+check "C entry, quick scripts" compares --frames --quick --seed 1 --count $scripts "$host" frames
 check "C entry, a million lines" by_the_million by_entry
 if [ -x "${host}_checked" ]; then
   check "C entry: known calls, with sanitizers" "${host}_checked" selftest
-  check "C entry, quick scripts, with sanitizers" "$bin/compare" --frames --quick --seed 30001 --count 2000 "${host}_checked" frames
+  check "C entry, quick scripts, with sanitizers" compares --frames --quick --seed 30001 --count 2000 "${host}_checked" frames
 fi
 
 echo "$passed passed, $failed failed"

@@ -1,6 +1,8 @@
 #!/usr/bin/env bash
 # fuzz.sh [SEED [COUNT]]: the comparisons of `cards` and of the C entry with the reference on COUNT scripts of any length, COUNT
-# quick ones and COUNT / 100 in pieces, from the seed SEED on. Stops at the first difference and prints the shortest script found.
+# quick ones and COUNT / 100 in pieces, from the seed SEED on, fewest lines first. Stops at the first difference and prints the
+# shortest script that shows it: a choice of its lines such that every smaller choice was tried. Where that takes long, the shortest so
+# far is printed first.
 set -eu
 cd "$(dirname "$0")/.."
 tests/tool.sh rt cargo gcc make

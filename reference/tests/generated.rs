@@ -167,6 +167,21 @@ fn quick_scripts_have_every_length_order_and_byte() {
     assert!(total < 4_000_000, "{total} lines take long");
 }
 
+/// What scripts of fewer than 20 lines have between them: every answer and
+/// refusal of a run, two setbacks of one transaction among them.
+#[test]
+fn quick_scripts_of_few_lines_have_every_answer() {
+    let short = (1..=10_000).map(quick_script).filter(|script| lines_of(script) < 20);
+    let listings: Vec<String> =
+        short.map(|script| String::from_utf8(listing_of(&script)).expect("text")).collect();
+    assert!(listings.len() > 2_000, "{} scripts of few lines", listings.len());
+    for answer in SEEN.into_iter().chain(["refused 1\n", "refused 2", "refused 11", "committed 2"])
+    {
+        let seen = listings.iter().any(|listing| listing.contains(&format!(" {answer}")));
+        assert!(seen, "{answer}");
+    }
+}
+
 /// Contended runs at each number of cores: waits and setbacks are met.
 #[test]
 fn quick_scripts_contend_at_each_number_of_cores() {
