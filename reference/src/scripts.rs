@@ -132,11 +132,17 @@ fn contended(random: &mut Random, most: u32) -> Vec<Call> {
 /// Few calls, so that a script that shows a fault has few lines to choose from.
 fn few_calls(random: &mut Random) -> Vec<Call> {
     let length = 1 + random.place(FEW_CALLS);
-    match random.below(5) {
+    match random.below(6) {
         0 => full_list(random, length),
         1 => struck_in_turn(random),
-        _ => contended_run(Contention::small(random.bits()), length),
+        2 => [small(random, length / 2), small(random, length / 2)].concat(),
+        _ => small(random, length),
     }
+}
+
+/// A setup and a contended run of so many calls on a small machine.
+fn small(random: &mut Random, length: usize) -> Vec<Call> {
+    contended_run(Contention::small(random.bits()), length)
 }
 
 /// A setup and jobs, until the list of a core is full.
@@ -152,7 +158,8 @@ fn full_list(random: &mut Random, length: usize) -> Vec<Call> {
 }
 
 /// A setup and a late transaction that one or two earlier ones set back, each
-/// with its commit; in half of the cases a call more at any place.
+/// with its commit; a core that has committed may come again. In half of the
+/// cases there is a call more at any place.
 fn struck_in_turn(random: &mut Random) -> Vec<Call> {
     let late = 1 + random.below(2);
     let mut calls = vec![Call::Setup { cores: late + 1, objects: 1 }];
@@ -161,23 +168,34 @@ fn struck_in_turn(random: &mut Random) -> Vec<Call> {
     }
     for core in 0..late {
         let value = 1 + random.below(9);
+        let (write, commit) = (Call::Write { core, object: 0, value }, Call::Commit { core });
         let touch = match random.below(2) {
             0 => Call::Read { core: late, object: 0 },
             _ => Call::Write { core: late, object: 0, value },
         };
-        calls.extend([Call::Write { core, object: 0, value }, touch, Call::Commit { core }, touch]);
+        calls.extend([write, touch, commit]);
+        if late == 1 && random.percent(50) {
+            calls.extend([Call::Begin { core }, write, commit]);
+        }
+        calls.push(touch);
     }
     calls.push(Call::Commit { core: late });
     if random.percent(50) {
-        let more = match random.below(5) {
-            0 => Call::Begin { core: random.below(late + 1) },
-            1 => Call::Commit { core: late },
-            2 => Call::GiveUp { core: random.below(late + 1) },
-            _ => Call::Read { core: late, object: random.below(2) },
-        };
+        let more = one_more(random, late);
         calls.insert(random.place(calls.len() + 1), more);
     }
     calls
+}
+
+/// A call that may come at any place of a run with this late core.
+fn one_more(random: &mut Random, late: u32) -> Call {
+    let core = random.below(late + 1);
+    match random.below(5) {
+        0 => Call::Begin { core },
+        1 => Call::Commit { core },
+        2 => Call::GiveUp { core },
+        _ => Call::Read { core: late, object: random.below(2) },
+    }
 }
 
 /// A setup and a contended run of so many calls.

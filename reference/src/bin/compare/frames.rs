@@ -96,8 +96,8 @@ impl Frames {
     }
 
     fn one_by_one(&mut self, scripts: &[Vec<u8>], from: usize) -> io::Result<Option<usize>> {
-        for place in from..scripts.len() {
-            if !self.agrees(&scripts[place])? {
+        for (place, script) in scripts.iter().enumerate().skip(from) {
+            if !self.agrees(script)? {
                 return Ok(Some(place));
             }
         }
