@@ -73,7 +73,7 @@ pub fn script(seed: u64) -> Vec<u8> {
 }
 
 /// The script of this seed, quickly run: most have few lines, one in 300 has
-/// thousands, up to 20,000, and one in five has fewer than 20.
+/// thousands, up to 20,000, and about one in five is made with fewer than 20.
 pub fn quick_script(seed: u64) -> Vec<u8> {
     let mut random = Random::new(seed);
     let order = *random.pick(&orders());

@@ -83,12 +83,21 @@ fn compare_shrinks_a_wrong_wait_to_few_lines() {
     assert!(text.contains("\nfewest: every smaller choice was tried\n"), "{text}");
 }
 
+/// A program that never waits, with no trials for the fewest lines.
+fn compare_briefly() -> String {
+    let command = "\"$0\" | sed 's/waits -/committed 0/'";
+    let arguments = ["--trials", "0", "--quick", "--count", "600", "sh", "-c", command, REFERENCE];
+    let (status, text) = compare(&arguments);
+    assert_eq!(status, Some(1));
+    text
+}
+
 /// The first difference is in the script of the fewest lines that shows one.
 #[test]
 fn compare_takes_scripts_of_few_lines_first() {
-    let text = compare_edited("s/waits -/committed 0/");
+    let text = compare_briefly();
     let waits = |script: &[u8]| String::from_utf8_lossy(&listing_of(script)).contains(" waits -");
-    let scripts = (7..607).map(|seed| (quick_script(seed), seed));
+    let scripts = (1..=600).map(|seed| (quick_script(seed), seed));
     let differ = scripts.filter(|(script, _)| waits(script));
     let first = differ.map(|(script, seed)| (count_lines(&script), seed)).min();
     let (lines, seed) = first.expect("some script waits");
@@ -99,10 +108,7 @@ fn compare_takes_scripts_of_few_lines_first() {
 /// Too few trials: what is left may not be the fewest lines, and that is said.
 #[test]
 fn compare_owns_up_to_a_search_that_ended_early() {
-    let command = "\"$0\" | sed 's/waits -/committed 0/'";
-    let arguments = ["--trials", "0", "--quick", "--count", "600", "sh", "-c", command, REFERENCE];
-    let (status, text) = compare(&arguments);
-    assert_eq!(status, Some(1));
+    let text = compare_briefly();
     assert!(text.contains(" lines; choices of 0 lines and more were not all tried\n"), "{text}");
 }
 
