@@ -15,7 +15,7 @@ const PATIENCE: Duration = Duration::from_millis(20);
 /// read of its own. A program may end before it has read everything, so a
 /// failed write is no failure here.
 pub fn feed(mut input: ChildStdin, script: &[u8], piece: Option<usize>, reader: u32) {
-    let state = File::open(format!("/proc/{reader}/stat")).ok();
+    let state = piece.and_then(|_| File::open(format!("/proc/{reader}/stat")).ok());
     for part in script.chunks(piece.unwrap_or(usize::MAX)) {
         if input.write_all(part).and_then(|()| input.flush()).is_err() {
             return;

@@ -40,12 +40,17 @@ pub fn difference(options: &Options, seed: u64, found: &[u8]) -> io::Result<()> 
 }
 
 /// A script fails if the program differs on it.
-struct Differs(Box<dyn Subject>);
+struct Differs {
+    subject: Box<dyn Subject>,
+    /// The program could not be started for some script.
+    untried: bool,
+}
 
 impl Trials for Differs {
-    /// A program that cannot be started does not differ.
     fn first_failing(&mut self, scripts: &[Vec<u8>]) -> Option<usize> {
-        self.0.first_difference(scripts).unwrap_or(None)
+        let first = self.subject.first_difference(scripts);
+        self.untried |= first.is_err();
+        first.unwrap_or(None)
     }
 
     fn before_long_search(&mut self, shortest: &[u8], choices: u64) {
@@ -66,7 +71,11 @@ fn shortest(options: &Options, found: &[u8]) -> io::Result<Shrunk> {
     if hangs {
         subject = options.within(options.limit.min(SHRINKING_LIMIT));
     }
-    let shrunk = shrink(found, options.budget, &mut Differs(subject));
+    let mut differs = Differs { subject, untried: false };
+    let mut shrunk = shrink(found, options.budget, &mut differs);
+    if differs.untried {
+        shrunk.tried_below = 0;
+    }
     let shows = !options.subject().agrees(&shrunk.script)?;
     Ok(if shows { shrunk } else { Shrunk::untried(found) })
 }
