@@ -3,14 +3,14 @@
 // `Reading::start`, then `feed` for each chunk, then `finish`: the outputs together, after the heading, are the listing of the chunks
 // together (specs/Listing.antt), however the script is cut. Any reading, tables and output may be handed in: what does not fit is
 // refused, and the reading comes back as given.
-use crate::tests::clear;
-use crate::tests::refusal_of;
+use crate::soundness::clear;
+use crate::soundness::refusal_of;
 use machine::Machine;
 use script::Columns;
 ghost use mathlib.Core.Path.{_≡_};
 ghost use mathlib.Core.Bool.{false, cond};
 ghost use mathlib.Core.List.{List, [], _++_};
-ghost use Prim.Native.Nat.{ℕ};
+ghost use Prim.Native.Nat.{ℕ, _≤_};
 ghost use lib.Dec.{eqb};
 ghost use lib.ListN.{length, take, drop};
 ghost use Rattle.runner.specs.Kept.{rest, state, started, fed, finished};
@@ -19,7 +19,7 @@ ghost use Rattle.runner.specs.Doors.{cleared, refusal};
 mod calls;
 pub mod inside;
 mod lines;
-mod tests;
+mod soundness;
 
 // What is kept of a script between two chunks.
 pub struct Reading {
@@ -81,7 +81,7 @@ impl Reading {
         ensures refusal { λ o. ⌜ o .refusal ≡ refusal self (length (now (committed .entry))) (length (now (pending .entry))) (length (now (chunk .entry))) (length (now (output .entry))) ⌝ }
         ensures kept { λ o. ⌜ state (o .reading) (now (committed .exit)) (now (pending .exit)) ≡ cond (eqb (o .refusal) 0) (fed (state (cleared self) (now (committed .entry)) (now (pending .entry))) (now (chunk .entry))) (state self (now (committed .entry)) (now (pending .entry))) ⌝ }
         ensures listed { λ o. ⌜ (o .refusal ≡ 0 → (bytes : List ℕ) → rest (cleared self) (now (committed .entry)) (now (pending .entry)) (now (chunk .entry) ++ bytes) ≡ take (o .written) (now (output .exit)) ++ rest (o .reading) (now (committed .exit)) (now (pending .exit)) bytes) ⌝ }
-        ensures after { λ o. ⌜ (eqb (o .refusal) 0 ≡ false → o .written ≡ 0) × (drop (o .written) (now (output .exit)) ≡ drop (o .written) (now (output .entry))) ⌝ }
+        ensures after { λ o. ⌜ (o .written ≤ length (now (output .entry))) × (eqb (o .refusal) 0 ≡ false → o .written ≡ 0) × (drop (o .written) (now (output .exit)) ≡ drop (o .written) (now (output .entry))) ⌝ }
     {
         let refusal = refusal_of(
             self,
@@ -108,16 +108,11 @@ impl Reading {
 
     // The script's end: a line without its newline is a line. What is written is the rest of the listing, and the bytes after it keep
     // what they held. 2 unsound reading, 3 wrong table, 12 the output has not 32 bytes.
-    pub fn finish(
-        self,
-        committed: &mut [u32],
-        pending: &mut [u32],
-        output: &mut [u8],
-    ) -> Taken
+    pub fn finish(self, committed: &mut [u32], pending: &mut [u32], output: &mut [u8]) -> Taken
         ensures refusal { λ o. ⌜ o .refusal ≡ refusal self (length (now (committed .entry))) (length (now (pending .entry))) 1 (length (now (output .entry))) ⌝ }
         ensures kept { λ o. ⌜ state (o .reading) (now (committed .exit)) (now (pending .exit)) ≡ cond (eqb (o .refusal) 0) (finished (state (cleared self) (now (committed .entry)) (now (pending .entry)))) (state self (now (committed .entry)) (now (pending .entry))) ⌝ }
         ensures listed { λ o. ⌜ (o .refusal ≡ 0 → take (o .written) (now (output .exit)) ≡ rest (cleared self) (now (committed .entry)) (now (pending .entry)) []) ⌝ }
-        ensures after { λ o. ⌜ (eqb (o .refusal) 0 ≡ false → o .written ≡ 0) × (drop (o .written) (now (output .exit)) ≡ drop (o .written) (now (output .entry))) ⌝ }
+        ensures after { λ o. ⌜ (o .written ≤ length (now (output .entry))) × (eqb (o .refusal) 0 ≡ false → o .written ≡ 0) × (drop (o .written) (now (output .exit)) ≡ drop (o .written) (now (output .entry))) ⌝ }
     {
         let refusal = refusal_of(self, committed.len(), pending.len(), 1, output.len());
         if refusal != 0 {

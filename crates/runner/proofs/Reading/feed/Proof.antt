@@ -3,6 +3,7 @@ use mathlib.Core.Path.{refl, sym, ap, subst, _∙_}
 use mathlib.Core.Bool.{true≢false}
 use mathlib.Core.List.{_++_}
 use Prim.Native.Nat.{_*_, _≤_}
+use native.Mathlib.Omega.{arith}
 use lib.ListN.{length}
 use denote.Ref.{now}
 use borrow.Author.Needs.{needs}
@@ -21,7 +22,7 @@ refusal-of-requires c κs = search needs
 returns : tie.Need-returns
 returns c = (
   c .before .refusal-of .ensures,
-  (rw (ne-eqb _ 0 (c .if1 .taken)) refl, ((λ e. absurd (c .if1 .taken e)), ((λ e. refl), refl))),
+  (rw (ne-eqb _ 0 (c .if1 .taken)) refl, ((λ e. absurd (c .if1 .taken e)), (omega arith, (λ e. refl), refl))),
 )
 
 clear-requires : tie.Need-clear-requires
@@ -34,8 +35,8 @@ feed-requires c κs =
     let start = asked .before .before .before .before .before in
     let args = start .args in
     let fit : Fit (cleared (args .self)) (now (args .committed)) (now (args .pending)) × (32 * (length (now (args .chunk))) ≤ length (now (args .output))) =
-        taken-fit (args .self) (now (args .committed)) (now (args .pending)) (length (now (args .chunk))) (length (now (args .output)))
-        (reading-formed (args .self) _ (start .good .0)) (sym (asked .refusal-of .ensures) ∙ clear .before .if1 .left) in
+    taken-fit (args .self) (now (args .committed)) (now (args .pending)) (length (now (args .chunk))) (length (now (args .output)))
+    (reading-formed (args .self) _ (start .good .0)) (sym (asked .refusal-of .ensures) ∙ clear .before .if1 .left) in
     (subst (λ (r : Reading). Fit r (now (args .committed)) (now (args .pending))) (sym (clear .clear .ensures)) (fit .0), fit .1)
 
 same-length : tie.Need-same-length
@@ -59,7 +60,7 @@ returns-2 c =
         did .1 .1 .1 ∙ ap (λ (r : Reading). fed (state r (now (start .committed)) (now (start .pending))) (now (start .chunk))) (clear .clear .ensures),
         (
           (λ e bytes. ap (λ (r : Reading). rest r (now (start .committed)) (now (start .pending)) (now (start .chunk) ++ bytes)) (sym (clear .clear .ensures)) ∙ did .1 .0 bytes),
-          ((λ e. absurd (true≢false e)), did .1 .1 .0 .1),
+          (omega (arith, did .1 .1 .0 .0, feed-requires (done .before) (done .feed .lifetimes) .1), (λ e. absurd (true≢false e)), did .1 .1 .0 .1),
         ),
       ),
     )

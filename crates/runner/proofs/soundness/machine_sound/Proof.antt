@@ -1,9 +1,9 @@
--- `runner::tests::machine_sound` meets its contract. Assumes nothing.
+-- `runner::soundness::machine_sound` meets its contract. Assumes nothing.
 use native.Mathlib.Omega.{arith}
 use borrow.Author.Needs.{needs}
 use borrow.Author.Tests.{eq-eqb, ne-eqb, lt-ltb, le-ltb}
-use Rattle.runner.proofs.tests.machine_sound.Statement.{statement}
-use Rattle.runner.proofs.tests.machine_sound.Tie as tie
+use Rattle.runner.proofs.soundness.machine_sound.Statement.{statement}
+use Rattle.runner.proofs.soundness.machine_sound.Tie as tie
 
 returns : tie.Need-returns
 returns c = rw (eq-eqb _ _ (c .if1 .taken))

@@ -1,4 +1,4 @@
-// What the doors test: whether a reading, whatever its fields hold, is sound, and whether the tables and the output fit. Assumes nothing.
+// The soundness test of a reading, whatever its fields hold, and the test that tables and output fit it. Assumes nothing.
 use crate::Reading;
 use machine::Machine;
 ghost use mathlib.Core.Path.{_≡_};
@@ -73,13 +73,7 @@ fn is_readable(r: Reading) -> bool
 }
 
 // The number of the refusal, or 0.
-pub fn refusal_of(
-    r: Reading,
-    committed: usize,
-    pending: usize,
-    bytes: usize,
-    room: usize,
-) -> u8
+pub fn refusal_of(r: Reading, committed: usize, pending: usize, bytes: usize, room: usize) -> u8
     ensures { λ n. ⌜ n ≡ refusal r committed pending bytes room ⌝ }
 {
     if !is_readable(r) {

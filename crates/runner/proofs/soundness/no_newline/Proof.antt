@@ -1,4 +1,4 @@
--- `runner::tests::no_newline` meets its contract. The loop's invariant: a newline, if there is one, is still to come. The measure is the
+-- `runner::soundness::no_newline` meets its contract. The loop's invariant: a newline, if there is one, is still to come. The measure is the
 -- number of bytes to come. Assumes nothing.
 use mathlib.Core.Path.{_≡_, refl, sym, _∙_}
 use Prim.Native.Nat.{_-_}
@@ -7,8 +7,8 @@ use lib.ListN.{length, drop}
 use denote.Ref.{now}
 use Rattle.script.specs.Pieces.{free}
 use Rattle.runner.proofs.Doors.{newline-here, newline-later, newline-none}
-use Rattle.runner.proofs.tests.no_newline.Statement.{statement}
-use Rattle.runner.proofs.tests.no_newline.Tie as tie
+use Rattle.runner.proofs.soundness.no_newline.Statement.{statement}
+use Rattle.runner.proofs.soundness.no_newline.Tie as tie
 
 abbrev Inv-loop : tie.InvT-loop
 Inv-loop bytes i₀ i = free 10 bytes ≡ free 10 (drop i bytes)

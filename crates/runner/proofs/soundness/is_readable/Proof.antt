@@ -1,4 +1,4 @@
--- `runner::tests::is_readable` meets its contract: the tests of `readable` one by one. Assumes nothing.
+-- `runner::soundness::is_readable` meets its contract: the tests of `readable` one by one. Assumes nothing.
 use mathlib.Core.Path.{_≡_, sym}
 use native.Mathlib.Omega.{arith}
 use lib.ListN.{length}
@@ -8,8 +8,8 @@ use borrow.Author.Tests.{le-leb, lt-leb}
 use Rattle.machine.proofs.TestLaws.{holds, breaks}
 use Rattle.runner.specs.Doors.{readable}
 use Rattle.runner.proofs.Typed.{reading-formed}
-use Rattle.runner.proofs.tests.is_readable.Statement.{statement}
-use Rattle.runner.proofs.tests.is_readable.Tie as tie
+use Rattle.runner.proofs.soundness.is_readable.Statement.{statement}
+use Rattle.runner.proofs.soundness.is_readable.Tie as tie
 
 is-line-requires : tie.Need-is-line-requires
 is-line-requires c κs = search needs

@@ -1,12 +1,12 @@
--- `runner::tests::refusal_of` meets its contract: the smallest number comes first. Assumes nothing.
+-- `runner::soundness::refusal_of` meets its contract: the smallest number comes first. Assumes nothing.
 use mathlib.Core.Path.{sym, _∙_}
 use borrow.Author.Needs.{needs}
 use borrow.Author.Tests.{eq-eqb, ne-eqb, lt-ltb, le-ltb}
 use Rattle.machine.proofs.TestLaws.{holds, breaks}
 use Rattle.runner.specs.Doors.{refusal}
 use Rattle.runner.proofs.Doors.{room-test}
-use Rattle.runner.proofs.tests.refusal_of.Statement.{statement}
-use Rattle.runner.proofs.tests.refusal_of.Tie as tie
+use Rattle.runner.proofs.soundness.refusal_of.Statement.{statement}
+use Rattle.runner.proofs.soundness.refusal_of.Tie as tie
 
 is-readable-requires : tie.Need-is-readable-requires
 is-readable-requires c κs = search needs

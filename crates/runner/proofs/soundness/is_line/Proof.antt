@@ -1,8 +1,8 @@
--- `runner::tests::is_line` meets its contract. Assumes nothing.
+-- `runner::soundness::is_line` meets its contract. Assumes nothing.
 use native.Mathlib.Omega.{arith}
 use borrow.Author.Tests.{lt-ltb, le-ltb}
-use Rattle.runner.proofs.tests.is_line.Statement.{statement}
-use Rattle.runner.proofs.tests.is_line.Tie as tie
+use Rattle.runner.proofs.soundness.is_line.Statement.{statement}
+use Rattle.runner.proofs.soundness.is_line.Tie as tie
 
 returns : tie.Need-returns
 returns c = rw (le-ltb 0 (c .before .args .number) (omega (arith, c .if1 .taken)))

@@ -1,9 +1,9 @@
--- `runner::tests::clear` meets its contract. Assumes nothing.
+-- `runner::soundness::clear` meets its contract. Assumes nothing.
 use borrow.Author.Needs.{needs}
 use borrow.Author.Tests.{eq-eqb, ne-eqb}
 use Rattle.runner.specs.Doors.{cleared}
-use Rattle.runner.proofs.tests.clear.Statement.{statement}
-use Rattle.runner.proofs.tests.clear.Tie as tie
+use Rattle.runner.proofs.soundness.clear.Statement.{statement}
+use Rattle.runner.proofs.soundness.clear.Tie as tie
 
 blank-requires : tie.Need-blank-requires
 blank-requires c κs = search needs
