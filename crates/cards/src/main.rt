@@ -4,6 +4,7 @@
 use libc::STDIN_FILENO;
 use libc::STDOUT_FILENO;
 use runner::Reading;
+use runner::inside;
 ghost use mathlib.Core.Path.{_≡_};
 ghost use Prim.Native.Nat.{_≤_};
 ghost use lib.ListN.{length};
@@ -15,7 +16,7 @@ fn main() {
     let mut output = io::large_buffer();
     let k = listing::put_heading(&mut output);
     if written(&output[..k]) {
-        let reading = runner::start(&committed, &pending);
+        let reading = Reading::start();
         run(reading, &mut committed, &mut pending, &mut output);
     }
 }
@@ -39,7 +40,7 @@ fn run(first: Reading, committed: &mut [u32], pending: &mut [u32], output: &mut 
         if n == 0 {
             turns = 0;
         } else {
-            let fed = runner::feed(reading, &input[..n], committed, pending, output);
+            let fed = inside::feed(reading, &input[..n], committed, pending, output);
             reading = fed.reading;
             let k = fed.written;
             if !written(&output[..k]) {
@@ -48,7 +49,7 @@ fn run(first: Reading, committed: &mut [u32], pending: &mut [u32], output: &mut 
             turns = turns_left(reading.going, turns);
         }
     }
-    let k = runner::finish(reading, committed, pending, output);
+    let k = inside::finish(reading, committed, pending, output).written;
     written(&output[..k]);
 }
 

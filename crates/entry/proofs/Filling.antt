@@ -1,6 +1,6 @@
 -- A listing that is put into the output piece by piece: what holds after each piece. Assumes nothing.
 use mathlib.Core.Path.{_≡_, refl, sym, ap, subst, _∙_}
-use mathlib.Core.Bool.{Bool, true, false}
+use mathlib.Core.Bool.{Bool, true, false, cond}
 use mathlib.Core.List.{List, [], _++_, append-nil, append-assoc}
 use Prim.Native.Nat.{ℕ, _+_, _-_, _*_, _≤_, _<_}
 use native.Mathlib.Omega.{arith}
@@ -13,7 +13,8 @@ use Rattle.listing.specs.Text.{heading, placed, fitting, put}
 use Rattle.listing.proofs.Laws.{fitting-whole, put-whole, placed-whole, placed-length}
 use Rattle.runner.specs.declared.Reading.{Reading}
 use Rattle.runner.specs.Listing.{listing, body, mostLines}
-use Rattle.runner.specs.Kept.{rest, Fit}
+use Rattle.runner.specs.Kept.{next, rest, started, Fit}
+use Rattle.runner.proofs.Laws.{start-fit, start-whole}
 use Rattle.runner.proofs.Bounds.{listing-short}
 
 -- `text` is listed, `total` bytes of it; it is the output's first part, if the output has room for the whole listing, and the bytes after
@@ -139,17 +140,17 @@ heading-put scratch scratch′ k long count bytes =
     (eighteen, ap (take k) (bytes ∙ put-whole heading scratch room) ∙ take-at heading (drop 18 scratch) k (sym eighteen))
 
 pub running-starts : (script out₀ out cs ps scratch piece : List ℕ) (total : ℕ) (r : Reading) → (total ≡ 18) × (piece ≡ heading)
-    → out ≡ placed 0 piece out₀ → length scratch ≡ 4096 → Fit r cs ps → ((bytes : List ℕ) → rest r cs ps bytes ≡ body (lines bytes))
+    → out ≡ placed 0 piece out₀ → length scratch ≡ 4096 → r ≡ started → length cs ≡ 64 → length ps ≡ 1024
     → Running script out out cs ps scratch total r 0
-running-starts script out₀ out cs ps scratch piece total r put e long fit whole =
+running-starts script out₀ out cs ps scratch piece total r put e long new committed pending =
     record {
-      fit = fit;
+      fit = start-fit r cs ps new committed pending;
       within = omega arith;
       scratch-long = long;
       text = heading;
       headed = omega (arith, put .0);
       so-far = subst (λ (n : ℕ). Listed script out heading out n (rest r cs ps script)) (sym (put .0))
-          (subst (λ (x : List ℕ). Listed script out heading out 18 x) (sym (whole script))
+          (subst (λ (x : List ℕ). Listed script out heading out 18 x) (sym (start-whole r cs ps new script))
           (heading-listed script out₀ out (e ∙ ap (λ (x : List ℕ). placed 0 x out₀) (put .1))));
     }
 
@@ -171,6 +172,28 @@ module _ (script out₀ out cs ps scratch : List ℕ) (total : ℕ) (r : Reading
             (run .so-far) e);
       }
 
+  -- lines are read no more
+  none : (bytes : List ℕ) → r .going ≡ false → rest r cs ps bytes ≡ []
+  unfolding rest next
+  none bytes over = rw over refl
+
+  -- then the rest of the script may be passed over
+  pub running-on : (n : ℕ) → n ≡ cond (r .going) at (length script) → Running script out₀ out cs ps scratch total r n
+  running-on n is = subst (Running script out₀ out cs ps scratch total r) (sym is) (go (r .going) refl)
+    where
+      go : (b : Bool) → r .going ≡ b → Running script out₀ out cs ps scratch total r (cond b at (length script))
+      go true e = run
+      go false e =
+          record {
+            fit = run .fit;
+            within = omega arith;
+            scratch-long = run .scratch-long;
+            text = run .text;
+            headed = run .headed;
+            so-far = subst (λ (x : List ℕ). Listed script out₀ (run .text) out total x)
+                (none (drop at script) e ∙ sym (none (drop (length script) script) e)) (run .so-far);
+          }
+
   -- no sum wraps
   pub running-small : total ≤ 32 * (mostLines + 2)
   running-small = omega (arith, total-small script out₀ (run .text) out total (rest r cs ps (drop at script)) (run .so-far))
@@ -187,3 +210,8 @@ module _ (script out₀ out cs ps scratch : List ℕ) (total : ℕ) (r : Reading
 -- a chunk of at most 128 bytes is listed in at most 4,096
 pub few-bytes : (script : List ℕ) (at end k : ℕ) → end ≤ at + 128 → k ≤ 32 * length (take (end - at) (drop at script)) → k ≤ 4096
 few-bytes script at end k near h = omega (arith, near, h, length-take (end - at) (drop at script))
+
+-- less of the script is left
+pub less-left : (going : Bool) (at end long n : ℕ) → at < end → end ≤ long → n ≡ cond going end long → long - n < long - at
+less-left true at end long n forward within is = omega (arith, forward, within, is)
+less-left false at end long n forward within is = omega (arith, forward, within, is)

@@ -1,5 +1,8 @@
 // The C entry: a script in, its listing out (include/cards.h). Assumes nothing.
+use runner::Reading;
+use runner::inside;
 ghost use mathlib.Core.Path.{_≡_};
+ghost use mathlib.Core.Bool.{cond};
 ghost use mathlib.Core.List.{_++_};
 ghost use Prim.Native.Nat.{_+_, _*_, _≤_, _<_};
 ghost use lib.Dec.{leb};
@@ -72,6 +75,13 @@ fn chunk_end(length: usize, at: usize) -> usize
     }
 }
 
+// Where the next chunk begins: at the script's end, once nothing more is read.
+fn next_from(going: bool, end: usize, length: usize) -> usize
+    ensures { λ r. ⌜ r ≡ cond going end length ⌝ }
+{
+    if going { end } else { length }
+}
+
 // How long the script's listing is. Where the output has room for all of it, it is the output's first part, and the bytes after it keep
 // what they held.
 fn list_into(script: &[u8], output: &mut [u8]) -> usize
@@ -83,11 +93,11 @@ fn list_into(script: &[u8], output: &mut [u8]) -> usize
     let mut text = [0u8; 4096];
     let mut total = listing::put_heading(&mut text);
     listing::put_bytes(output, 0, &text[..total]);
-    let mut reading = runner::start(&committed, &pending);
+    let mut reading = Reading::start();
     let mut at = 0;
     while at < script.len() {
         let end = chunk_end(script.len(), at);
-        let fed = runner::feed(
+        let fed = inside::feed(
             reading,
             &script[at..end],
             &mut committed,
@@ -97,10 +107,10 @@ fn list_into(script: &[u8], output: &mut [u8]) -> usize
         reading = fed.reading;
         let k = fed.written;
         listing::put_bytes(output, total, &text[..k]);
+        at = next_from(reading.going, end, script.len());
         total += k;
-        at = end;
     }
-    let k = runner::finish(reading, &mut committed, &mut pending, &mut text);
+    let k = inside::finish(reading, &mut committed, &mut pending, &mut text).written;
     listing::put_bytes(output, total, &text[..k]);
     total + k
 }

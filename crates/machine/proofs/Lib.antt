@@ -8,7 +8,7 @@ mod JobCalls
 mod Facts
 mod Front
 mod CommitLaws
-mod TestLaws
+pub mod TestLaws
 mod SoundLaws
 pub mod Refusals
 mod Told

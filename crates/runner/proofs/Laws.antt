@@ -1,11 +1,33 @@
--- Chunks of any size give the listing. Assumes nothing.
-use mathlib.Core.Path.{_≡_, sym, ap, _∙_}
+-- What `start` gives, and that chunks of any size give the listing. Assumes nothing.
+use mathlib.Core.Path.{_≡_, refl, sym, ap, subst, _∙_}
+use mathlib.Core.Logic.{inl}
 use mathlib.Core.List.{List, [], _∷_, _++_, flatten, append-assoc}
 use Prim.Native.Nat.{ℕ}
-use Rattle.script.specs.Pieces.{lines}
+use native.Mathlib.Omega.{arith}
+use lib.ListN.{length}
+use Rattle.script.specs.Pieces.{lines, free}
 use Rattle.listing.specs.Text.{heading}
-use Rattle.runner.specs.Kept.{State, rest}
+use Rattle.runner.specs.declared.Reading.{Reading}
+use Rattle.runner.specs.Kept.{State, rest, started, Fit}
 use Rattle.runner.specs.Listing.{body, listing}
+use Rattle.runner.proofs.Finishing.{whole-script}
+
+-- before the first byte, with tables for the largest machine, whatever they hold
+pub start-fit : (r : Reading) (cs ps : List ℕ) → r ≡ started → length cs ≡ 64 → length ps ≡ 1024 → Fit r cs ps
+start-fit r cs ps new committed pending =
+    subst (λ (x : Reading). Fit x cs ps) (sym new)
+    (record {
+      holds = record { committed-long = committed; pending-long = pending; blank-or-good = inl refl };
+      line-long = refl;
+      few-bytes = omega arith;
+      no-newline = unfold free in refl;
+      some-line = omega arith;
+      few-lines = λ e. omega arith;
+      first-blank = λ e. refl;
+    })
+
+pub start-whole : (r : Reading) (cs ps : List ℕ) → r ≡ started → (bytes : List ℕ) → rest r cs ps bytes ≡ body (lines bytes)
+start-whole r cs ps new bytes = ap (λ (x : Reading). rest x cs ps bytes) new ∙ whole-script started cs ps refl refl refl bytes
 
 -- what is still to be listed, if these bytes follow and the script ends
 abbrev pub left : State → List ℕ → List ℕ
@@ -27,7 +49,7 @@ run-lists s (chunk ∷ chunks) (output ∷ outputs) last (feeds s′ e run) =
     append-assoc output (flatten outputs) last
     ∙ ap (λ (x : List ℕ). output ++ x) (run-lists s′ chunks outputs last run) ∙ sym (e (flatten chunks))
 
--- from what `start` promises: however the script is cut into chunks, the heading and the outputs together are its listing
+-- from what is to be listed at the start: however the script is cut into chunks, the heading and the outputs together are its listing
 pub any-cut : (s : State) (chunks outputs : List (List ℕ)) (last : List ℕ) → ((bytes : List ℕ) → left s bytes ≡ body (lines bytes))
     → Run s chunks outputs last → heading ++ flatten outputs ++ last ≡ listing (flatten chunks)
 unfolding listing

@@ -9,6 +9,8 @@ mod Stepping
 mod Written
 mod Finishing
 mod Feeding
+mod Typed
+mod Doors
 pub mod Laws
 pub mod Runs
 pub mod Bounds

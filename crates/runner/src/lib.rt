@@ -1,30 +1,25 @@
 // Runs a script in chunks of any size and lists what each line answers (document 01, 'Script and listing').
 //
-// `start`, then `feed` for each chunk, then `finish`: the outputs together, after the heading, are the listing of the chunks together
-// (specs/Listing.antt), however the script is cut. These functions ask for what `start` gives and `feed` keeps (`Fit`); a caller who
-// has a script and an output calls the C entry instead, which asks nothing.
-use crate::calls::set_up;
-use crate::lines::Ended;
-use crate::lines::end_line;
+// `Reading::start`, then `feed` for each chunk, then `finish`: the outputs together, after the heading, are the listing of the chunks
+// together (specs/Listing.antt), however the script is cut. Any reading, tables and output may be handed in: what does not fit is
+// refused, and the reading comes back as given.
+use crate::soundness::clear;
+use crate::soundness::refusal_of;
 use machine::Machine;
-use machine::inside::access;
-use machine::inside::commit;
-use machine::inside::jobs;
-use machine::inside::transaction;
-use script::Call;
 use script::Columns;
 ghost use mathlib.Core.Path.{_≡_};
-ghost use mathlib.Core.Bool.{_||_};
-ghost use lib.Dec.{eqb, ltb};
+ghost use mathlib.Core.Bool.{false, cond};
 ghost use mathlib.Core.List.{List, [], _++_};
-ghost use Prim.Native.Nat.{ℕ, _*_, _≤_};
+ghost use Prim.Native.Nat.{ℕ, _≤_};
+ghost use lib.Dec.{eqb};
 ghost use lib.ListN.{length, take, drop};
-ghost use Rattle.runner.specs.Kept.{Fit, rest, state, started, fed, finished};
-ghost use Rattle.runner.specs.Listing.{body};
-ghost use Rattle.script.specs.Pieces.{lines as linesOf};
+ghost use Rattle.runner.specs.Kept.{rest, state, started, fed, finished};
+ghost use Rattle.runner.specs.Doors.{cleared, refusal};
 
 mod calls;
+pub mod inside;
 mod lines;
+mod soundness;
 
 // What is kept of a script between two chunks.
 pub struct Reading {
@@ -46,154 +41,93 @@ pub struct Fed {
     pub written: usize,
 }
 
-// Before the first byte.
-pub fn start(committed: &[u32], pending: &[u32]) -> Reading
-    requires { ⌜ (length (now committed) ≡ 64) × (length (now pending) ≡ 1024) ⌝ }
-    ensures fit { λ r. ⌜ Fit r (now (committed .entry)) (now (pending .entry)) ⌝ }
-    ensures whole { λ r. ⌜ ((bytes : List ℕ) → rest r (now (committed .entry)) (now (pending .entry)) bytes ≡ body (linesOf bytes)) ⌝ }
-    ensures kept { λ r. ⌜ r ≡ started ⌝ }
-{
-    Reading {
-        going: true,
-        columns: Columns {
-            call: 0,
-            core: 0,
-            card: 0,
-            value: 0,
-        },
-        number: 1,
-        line: [0; 65],
-        length: 0,
-        machine: Machine::blank(),
-    }
+// The same, with the number of a refusal, or 0. Refused, nothing is written and the reading is as given.
+pub struct Taken {
+    pub reading: Reading,
+    pub written: usize,
+    pub refusal: u8,
 }
 
-// The next bytes of the script. The output needs 32 bytes for each of them; what is written is what the chunk adds to the listing, and
-// the bytes after it keep what they held. What is kept, with every word of both tables, is what `fed` says.
-//
-// The calls are made in the loop itself: the record goes by value, and a function between the loop and a call would copy it in and out.
-pub fn feed(
-    r: Reading,
-    chunk: &[u8],
-    committed: &mut [u32],
-    pending: &mut [u32],
-    output: &mut [u8],
-) -> Fed
-    requires { ⌜ Fit r (now committed) (now pending) × (32 * length (now chunk) ≤ length (now output)) ⌝ }
-    ensures fit { λ o. ⌜ Fit (o .reading) (now (committed .exit)) (now (pending .exit)) ⌝ }
-    ensures listed { λ o. ⌜ ((bytes : List ℕ) → rest r (now (committed .entry)) (now (pending .entry)) (now (chunk .entry) ++ bytes) ≡ take (o .written) (now (output .exit)) ++ rest (o .reading) (now (committed .exit)) (now (pending .exit)) bytes) ⌝ }
-    ensures after { λ o. ⌜ (o .written ≤ 32 * length (now (chunk .entry))) × (drop (o .written) (now (output .exit)) ≡ drop (o .written) (now (output .entry))) ⌝ }
-    ensures kept { λ o. ⌜ state (o .reading) (now (committed .exit)) (now (pending .exit)) ≡ fed (state r (now (committed .entry)) (now (pending .entry))) (now (chunk .entry)) ⌝ }
-{
-    let mut going = r.going;
-    let mut columns = r.columns;
-    let mut number = r.number;
-    let mut line = r.line;
-    let mut length = r.length;
-    let mut machine = r.machine;
-    let mut written = 0;
-    let mut i = 0;
-    while i < chunk.len() {
-        let b = chunk[i];
-        i += 1;
-        if b == b'\n' {
-            if going {
-                let ended = end_line(
-                    columns,
-                    number,
-                    &line[..length],
-                    machine.cores,
-                    &mut output[written..],
-                );
-                match ended {
-                    Ended::Calls(call) => {
-                        let d = machine.objects as usize;
-                        let n = machine.cores as usize * d;
-                        let done = match call {
-                            Call::Setup(cores, cards) => set_up(cores, cards, committed, pending),
-                            Call::Release(core, job, deadline) => {
-                                jobs::release(machine, core, job, deadline)
-                            }
-                            Call::Begin(core) => transaction::begin(machine, core),
-                            Call::Read(core, card) => {
-                                access::read(machine, core, card, &committed[..d], &pending[..n])
-                            }
-                            Call::Write(core, card, value) => access::write(
-                                machine,
-                                core,
-                                card,
-                                value,
-                                &committed[..d],
-                                &mut pending[..n],
-                            ),
-                            Call::Commit(core) => {
-                                commit::commit(
-                                    machine,
-                                    core,
-                                    &mut committed[..d],
-                                    &mut pending[..n],
-                                )
-                            }
-                            Call::GiveUp(core) => transaction::give_up(machine, core),
-                            Call::Finish(core) => jobs::finish(machine, core),
-                        };
-                        machine = done.machine;
-                        let answer = done.answer;
-                        written += listing::put_line(number, answer, &mut output[written..]);
-                    }
-                    Ended::Lists(listed) => {
-                        going = listed.going;
-                        columns = listed.columns;
-                        written += listed.written;
-                    }
-                }
-                number += 1;
-                length = 0;
-            }
-        } else if length < 65 {
-            line[length] = b;
-            length += 1;
+impl Reading {
+    // Before the first byte.
+    pub fn start() -> Reading
+        ensures { λ r. ⌜ r ≡ started ⌝ }
+    {
+        Reading {
+            going: true,
+            columns: Columns {
+                call: 0,
+                core: 0,
+                card: 0,
+                value: 0,
+            },
+            number: 1,
+            line: [0; 65],
+            length: 0,
+            machine: Machine::blank(),
         }
     }
-    Fed {
-        reading: Reading {
-            going,
-            columns,
-            number,
-            line,
-            length,
-            machine,
-        },
-        written,
-    }
-}
 
-// Whether a line is left at the script's end: the line of names, even with no byte, or a line that has a byte.
-fn line_left(number: u32, length: usize) -> bool
-    ensures { λ r. ⌜ r ≡ (eqb number 1 || ltb 0 length) ⌝ }
-{
-    if number == 1 {
-        return true;
-    }
-    0 < length
-}
-
-// The script's end: a line without its newline is a line. What is written is the rest of the listing, and the bytes after it keep what
-// they held.
-pub fn finish(r: Reading, committed: &mut [u32], pending: &mut [u32], output: &mut [u8]) -> usize
-    requires { ⌜ Fit r (now committed) (now pending) × (32 ≤ length (now output)) ⌝ }
-    ensures listed { λ n. ⌜ take n (now (output .exit)) ≡ rest r (now (committed .entry)) (now (pending .entry)) [] ⌝ }
-    ensures after { λ n. ⌜ (n ≤ 32) × (drop n (now (output .exit)) ≡ drop n (now (output .entry))) ⌝ }
-    ensures kept { λ _. ⌜ (now (committed .exit) ≡ finished (state r (now (committed .entry)) (now (pending .entry))) .committed) × (now (pending .exit) ≡ finished (state r (now (committed .entry)) (now (pending .entry))) .pending) ⌝ }
-{
-    let length = r.length;
-    if r.going {
-        if line_left(r.number, length) {
-            feed(r, b"\n", committed, pending, output).written
-        } else {
-            0
+    // The next bytes of the script, with the tables of the largest machine, 64 and 1,024 words. What is written is what the chunk adds
+    // to the listing, and the bytes after it keep what they held. What is kept, with every word of both tables, is what `fed` says. 2
+    // unsound reading, 3 wrong table, 12 the output has not 32 bytes for each byte of the chunk.
+    pub fn feed(
+        self,
+        chunk: &[u8],
+        committed: &mut [u32],
+        pending: &mut [u32],
+        output: &mut [u8],
+    ) -> Taken
+        ensures refusal { λ o. ⌜ o .refusal ≡ refusal self (length (now (committed .entry))) (length (now (pending .entry))) (length (now (chunk .entry))) (length (now (output .entry))) ⌝ }
+        ensures kept { λ o. ⌜ state (o .reading) (now (committed .exit)) (now (pending .exit)) ≡ cond (eqb (o .refusal) 0) (fed (state (cleared self) (now (committed .entry)) (now (pending .entry))) (now (chunk .entry))) (state self (now (committed .entry)) (now (pending .entry))) ⌝ }
+        ensures listed { λ o. ⌜ (o .refusal ≡ 0 → (bytes : List ℕ) → rest (cleared self) (now (committed .entry)) (now (pending .entry)) (now (chunk .entry) ++ bytes) ≡ take (o .written) (now (output .exit)) ++ rest (o .reading) (now (committed .exit)) (now (pending .exit)) bytes) ⌝ }
+        ensures after { λ o. ⌜ (o .written ≤ length (now (output .entry))) × (eqb (o .refusal) 0 ≡ false → o .written ≡ 0) × (drop (o .written) (now (output .exit)) ≡ drop (o .written) (now (output .entry))) ⌝ }
+    {
+        let refusal = refusal_of(
+            self,
+            committed.len(),
+            pending.len(),
+            chunk.len(),
+            output.len(),
+        );
+        if refusal != 0 {
+            return Taken {
+                reading: self,
+                written: 0,
+                refusal,
+            };
         }
-    } else {
-        0
+        let fed = inside::feed(clear(self), chunk, committed, pending, output);
+        let reading = fed.reading;
+        Taken {
+            reading,
+            written: fed.written,
+            refusal: 0,
+        }
+    }
+
+    // The script's end: a line without its newline is a line. What is written is the rest of the listing, and the bytes after it keep
+    // what they held. 2 unsound reading, 3 wrong table, 12 the output has not 32 bytes.
+    pub fn finish(self, committed: &mut [u32], pending: &mut [u32], output: &mut [u8]) -> Taken
+        ensures refusal { λ o. ⌜ o .refusal ≡ refusal self (length (now (committed .entry))) (length (now (pending .entry))) 1 (length (now (output .entry))) ⌝ }
+        ensures kept { λ o. ⌜ state (o .reading) (now (committed .exit)) (now (pending .exit)) ≡ cond (eqb (o .refusal) 0) (finished (state (cleared self) (now (committed .entry)) (now (pending .entry)))) (state self (now (committed .entry)) (now (pending .entry))) ⌝ }
+        ensures listed { λ o. ⌜ (o .refusal ≡ 0 → take (o .written) (now (output .exit)) ≡ rest (cleared self) (now (committed .entry)) (now (pending .entry)) []) ⌝ }
+        ensures after { λ o. ⌜ (o .written ≤ length (now (output .entry))) × (eqb (o .refusal) 0 ≡ false → o .written ≡ 0) × (drop (o .written) (now (output .exit)) ≡ drop (o .written) (now (output .entry))) ⌝ }
+    {
+        let refusal = refusal_of(self, committed.len(), pending.len(), 1, output.len());
+        if refusal != 0 {
+            return Taken {
+                reading: self,
+                written: 0,
+                refusal,
+            };
+        }
+        let fed = inside::finish(clear(self), committed, pending, output);
+        let reading = fed.reading;
+        Taken {
+            reading,
+            written: fed.written,
+            refusal: 0,
+        }
     }
 }

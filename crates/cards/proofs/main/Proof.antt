@@ -1,11 +1,12 @@
 -- `cards::main` is safe: the heading fits the buffer, and the runner starts fit. Assumes nothing.
-use mathlib.Core.Path.{_≡_, sym, ap, _∙_}
+use mathlib.Core.Path.{_≡_, refl, sym, ap, _∙_}
 use Prim.Native.Nat.{_≤_}
 use native.Mathlib.Omega.{arith}
 use lib.ListN.{length}
 use lib.Seq.{length-take-le}
 use borrow.Author.Needs.{needs}
 use Rattle.listing.specs.Text.{heading}
+use Rattle.runner.proofs.Laws.{start-fit}
 use Rattle.listing.proofs.Laws.{fitting-whole}
 use Rattle.cards.proofs.main.Statement.{statement}
 use Rattle.cards.proofs.main.Tie as tie
@@ -32,12 +33,6 @@ slice-aggregate-written c = sym (length-take-le _ _ (array-share-prefix-output (
 written-requires : tie.Need-written-requires
 written-requires c κs = search needs
 
-slice-aggregate-start : tie.Need-slice-aggregate-start
-slice-aggregate-start c = search needs
-
-slice-aggregate-start-2 : tie.Need-slice-aggregate-start-2
-slice-aggregate-start-2 c = search needs
-
 start-requires : tie.Need-start-requires
 start-requires c κs = search needs
 
@@ -51,7 +46,9 @@ slice-aggregate-run-3 : tie.Need-slice-aggregate-run-3
 slice-aggregate-run-3 c = search needs
 
 run-requires : tie.Need-run-requires
-run-requires c κs = search needs
+run-requires c κs =
+    let put = c .before .before .before .before .before .before .before .before in
+    (start-fit _ _ _ (c .before .before .before .start .ensures) refl refl, omega (arith, put .put-heading .kept .0, put .before .before .large-buffer .ensures))
 
 returns : tie.Need-returns
 returns c = search needs
@@ -69,8 +66,6 @@ main-spec =
     array-share-prefix-output
     slice-aggregate-written
     written-requires
-    slice-aggregate-start
-    slice-aggregate-start-2
     start-requires
     slice-aggregate-run
     slice-aggregate-run-2

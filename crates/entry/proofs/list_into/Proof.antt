@@ -6,7 +6,7 @@ use lib.ListN.{length}
 use lib.Seq.{length-take-le}
 use denote.Ref.{now}
 use borrow.Author.Needs.{needs}
-use Rattle.entry.proofs.Filling.{Running, heading-put, running-starts, running-goes, running-small, running-ends, few-bytes}
+use Rattle.entry.proofs.Filling.{Running, heading-put, running-starts, running-goes, running-on, running-small, running-ends, few-bytes, less-left}
 use Rattle.runner.proofs.Bounds.{listing-short}
 use Rattle.entry.proofs.list_into.Statement.{statement}
 use Rattle.entry.proofs.list_into.Tie as tie
@@ -37,20 +37,14 @@ slice-aggregate-put-bytes c = sym (length-take-le _ _ (array-share-prefix-text (
 put-bytes-requires : tie.Need-put-bytes-requires Inv-loop μ-loop
 put-bytes-requires c κs = search needs
 
-slice-aggregate-start : tie.Need-slice-aggregate-start Inv-loop μ-loop
-slice-aggregate-start c = search needs
-
-slice-aggregate-start-2 : tie.Need-slice-aggregate-start-2 Inv-loop μ-loop
-slice-aggregate-start-2 c = search needs
-
 start-requires : tie.Need-start-requires Inv-loop μ-loop
 start-requires c κs = search needs
 
 loop-holds : tie.Need-loop-holds Inv-loop μ-loop
 loop-holds c =
-    let put = c .before .before .before .before .before .before .before .before .before .put-heading in
-    running-starts _ _ _ _ _ _ _ _ _ (heading-put _ _ _ refl (put .ensures .0) (put .ensures .1)) (c .before .before .before .before .before .put-bytes .ensures .1)
-    (put .kept .0) (c .start .ensures .0) (c .start .ensures .1 .0)
+    let put = c .before .before .before .before .before .before .before .put-heading in
+    running-starts _ _ _ _ _ _ _ _ _ (heading-put _ _ _ refl (put .ensures .0) (put .ensures .1)) (c .before .before .before .put-bytes .ensures .1)
+    (put .kept .0) (c .start .ensures) refl refl
 
 chunk-end-requires : tie.Need-chunk-end-requires Inv-loop μ-loop
 chunk-end-requires c κs = search needs
@@ -85,13 +79,25 @@ slice-aggregate-put-bytes-2 c = sym (length-take-le _ _ (array-share-prefix-text
 put-bytes-requires-2 : tie.Need-put-bytes-requires-2 Inv-loop μ-loop
 put-bytes-requires-2 c κs = search needs
 
-loop-less : tie.Need-loop-less Inv-loop μ-loop
-loop-less c = search needs
+next-from-requires : tie.Need-next-from-requires Inv-loop μ-loop
+next-from-requires c κs = search needs
 
 loop-again : tie.Need-loop-again Inv-loop μ-loop
 loop-again c =
-    running-goes _ _ _ _ _ _ _ _ _ (c .before .before .before .before .before .before .before .before .before .before .before .before .before .before .before .before .loop .inv) _ _ _ _ _ _ _ (c .before .before .before .before .before .before .before .before .before .before .before .before .before .before .chunk-end .ensures .0) (c .before .before .before .before .before .before .before .before .before .before .before .before .before .before .chunk-end .ensures .1)
-    (c .before .before .before .before .before .before .before .before .before .feed .ensures .0) (c .before .before .before .before .before .before .before .before .before .feed .kept .1 .1 .1 .1 .0 ∙ c .before .before .before .before .before .before .before .before .before .before .before .before .before .before .before .before .loop .inv .scratch-long) (few-bytes _ _ _ _ (c .before .before .before .before .before .before .before .before .before .before .before .before .before .before .chunk-end .ensures .2) (c .before .before .before .before .before .before .before .before .before .feed .ensures .1 .1 .0 .0)) (c .before .before .before .before .before .before .before .before .before .feed .ensures .1 .0) (c .before .before .put-bytes2 .ensures .1)
+    let listed = c .before .before .before .before in
+    let done = listed .before .before .before .before .before .before in
+    let chunk = done .before .before .before .before .before in
+    let at = chunk .before .before in
+    running-on _ _ _ _ _ _ _ _ _
+    (running-goes _ _ _ _ _ _ _ _ _ (at .loop .inv) _ _ _ _ _ _ _ (chunk .chunk-end .ensures .0) (chunk .chunk-end .ensures .1) (done .feed .ensures .0)
+    (done .feed .kept .1 .1 .1 .1 .0 ∙ at .loop .inv .scratch-long) (few-bytes _ _ _ _ (chunk .chunk-end .ensures .2) (done .feed .ensures .1 .1 .0 .0))
+    (done .feed .ensures .1 .0) (c .before .before .before .put-bytes2 .ensures .1)) _ (c .next-from .ensures)
+
+loop-less : tie.Need-loop-less Inv-loop μ-loop
+loop-less c =
+    let done = c .before .before .before .before .before .before .before .before .before .before in
+    let chunk = done .before .before .before .before .before in
+    less-left (done .feed .result .reading .going) _ _ _ _ (chunk .chunk-end .ensures .0) (chunk .chunk-end .ensures .1) (c .next-from .ensures)
 
 add-total : tie.Need-add-total Inv-loop μ-loop
 add-total c =
@@ -125,14 +131,14 @@ returns : tie.Need-returns Inv-loop μ-loop
 returns c =
     let ended = c .before .before .before .before .before .before .before .before in
     let at = ended .before .before .before .before .before in
-    let put = at .before .before .before .before .before .before .before .before .before .before .put-heading in
-    running-ends _ _ _ _ _ _ _ _ _ (at .loop .inv) _ _ _ _ (ended .finish .result) (ended .before .before .before .before .loop-test .left) (at .before .before .before .before .before .before .put-bytes .ensures .1)
+    let put = at .before .before .before .before .before .before .before .before .put-heading in
+    running-ends _ _ _ _ _ _ _ _ _ (at .loop .inv) _ _ _ _ (ended .finish .result .written) (ended .before .before .before .before .loop-test .left) (at .before .before .before .before .put-bytes .ensures .1)
     (heading-put _ _ _ refl (put .ensures .0) (put .ensures .1) .1) (ended .finish .ensures .0)
     (omega (arith, ended .finish .ensures .1 .0 .0, ended .finish .kept .1 .1 .1 .0, at .loop .inv .scratch-long)) (c .before .before .put-bytes3 .ensures .1)
 
 add-result : tie.Need-add-result Inv-loop μ-loop
 add-result c =
-    record { fits = omega (arith, returns c .0, listing-short (now (c .before .before .before .before .before .before .before .before .before .before .before .before .before .before .before .before .before .before .before .before .before .before .before .before .before .before .before .args .script))) }
+    record { fits = omega (arith, returns c .0, listing-short (now (c .before .before .before .before .before .before .before .before .before .before .before .before .before .before .before .before .before .before .before .before .before .before .before .before .before .args .script))) }
 
 pub list-into-spec : {M : Type 1} → statement M
 list-into-spec =
@@ -145,8 +151,6 @@ list-into-spec =
     array-share-prefix-text
     slice-aggregate-put-bytes
     put-bytes-requires
-    slice-aggregate-start
-    slice-aggregate-start-2
     start-requires
     loop-holds
     chunk-end-requires
@@ -160,6 +164,7 @@ list-into-spec =
     array-share-prefix-text-2
     slice-aggregate-put-bytes-2
     put-bytes-requires-2
+    next-from-requires
     add-total
     loop-less
     loop-again

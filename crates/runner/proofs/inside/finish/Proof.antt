@@ -1,4 +1,4 @@
--- `runner::finish` meets its contract: a line is left, which a newline ends, or none. Assumes nothing.
+-- `runner::inside::finish` meets its contract: a line is left, which a newline ends, or none. Assumes nothing.
 use mathlib.Core.Path.{refl, sym, ap, _∙_}
 use mathlib.Core.List.{List, [], _++_, append-nil}
 use Prim.Native.Nat.{ℕ}
@@ -6,10 +6,10 @@ use native.Mathlib.Omega.{arith}
 use lib.ListN.{take}
 use borrow.Author.Needs.{needs}
 use Rattle.runner.proofs.Finishing.{over, none-left, newline-none, line-left}
-use Rattle.runner.specs.Kept.{State, fed}
+use Rattle.runner.specs.Kept.{fed}
 use Rattle.runner.proofs.Stepping.{finished-over, finished-none, finished-line}
-use Rattle.runner.proofs.finish.Statement.{statement}
-use Rattle.runner.proofs.finish.Tie as tie
+use Rattle.runner.proofs.inside.finish.Statement.{statement}
+use Rattle.runner.proofs.inside.finish.Tie as tie
 
 line-left-requires : tie.Need-line-left-requires
 line-left-requires c κs = search needs
@@ -45,7 +45,7 @@ returns c =
     let text = take (done .feed .result .written) (done .feed .last .1 .1 .1 .1 .0) in (
       sym (append-nil text) ∙ ap (λ (x : List ℕ). text ++ x) (sym none) ∙ sym (did .1 .0 [])
           ∙ line-left _ _ _ (start .pre .0) on some,
-      (did .1 .1 .0, (ap (λ (s : State). s .committed) past, ap (λ (s : State). s .pending) past)),
+      (did .1 .1 .0, past),
     )
 
 returns-2 : tie.Need-returns-2
@@ -53,13 +53,13 @@ returns-2 c =
     let start = c .before .before .before .before .before .before in
     let none = sym (c .before .line-left .ensures) ∙ c .if2 .left in
     let same = sym (finished-none _ _ _ (c .before .before .if1 .taken) none) in
-    (none-left _ _ _ (start .pre .0) none, ((omega arith, refl), (ap (λ (s : State). s .committed) same, ap (λ (s : State). s .pending) same)))
+    (none-left _ _ _ (start .pre .0) none, ((omega arith, refl), same))
 
 returns-3 : tie.Need-returns-3
 returns-3 c =
     let start = c .before .before .before .before in
     let same = sym (finished-over _ _ _ (c .if1 .left)) in
-    (over _ _ _ (start .pre .0) (c .if1 .left), ((omega arith, refl), (ap (λ (s : State). s .committed) same, ap (λ (s : State). s .pending) same)))
+    (over _ _ _ (start .pre .0) (c .if1 .left), ((omega arith, refl), same))
 
 pub finish-spec : {M : Type 1} → statement M
 finish-spec =

@@ -1,4 +1,4 @@
--- `runner::feed` meets its contract. The loop's invariant is `Feeding`; the measure is what is left of the chunk. Assumes nothing.
+-- `runner::inside::feed` meets its contract. The loop's invariant is `Feeding`; the measure is what is left of the chunk. Assumes nothing.
 use mathlib.Core.Path.{_≡_, refl, sym, ap, subst, _∙_}
 use mathlib.Core.Logic.{⊎-elim}
 use mathlib.Core.Bool.{true}
@@ -27,8 +27,8 @@ use Rattle.runner.proofs.ByCall.{setup-done, lent-done, alone-done}
 use Rattle.runner.proofs.Written.{written}
 use Rattle.runner.proofs.Stepping.{reading}
 use Rattle.runner.proofs.Feeding.{Feeding, Left, feeding-starts, feeding-skips, feeding-loses, feeding-keeps, line-lists, line-calls, call-output, feeding-same, part-room, room-left, feeding-done, feeding-kept}
-use Rattle.runner.proofs.feed.Statement.{statement}
-use Rattle.runner.proofs.feed.Tie as tie
+use Rattle.runner.proofs.inside.feed.Statement.{statement}
+use Rattle.runner.proofs.inside.feed.Tie as tie
 
 abbrev Inv-loop : tie.InvT-loop
 Inv-loop chunk committed₀ pending₀ output₀ going₀ columns₀ number₀ line₀ length₀ machine₀ written₀ i₀ committed pending output going columns number line length machine written i =

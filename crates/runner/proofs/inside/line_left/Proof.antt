@@ -1,7 +1,7 @@
--- `runner::line_left` meets its contract. Assumes nothing.
+-- `runner::inside::line_left` meets its contract. Assumes nothing.
 use borrow.Author.Tests.{eq-eqb, ne-eqb}
-use Rattle.runner.proofs.line_left.Statement.{statement}
-use Rattle.runner.proofs.line_left.Tie as tie
+use Rattle.runner.proofs.inside.line_left.Statement.{statement}
+use Rattle.runner.proofs.inside.line_left.Tie as tie
 
 returns : tie.Need-returns
 returns c = simp (eq-eqb _ _ (c .if1 .taken))

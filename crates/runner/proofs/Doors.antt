@@ -1,0 +1,156 @@
+-- What the doors test makes a reading fit. Assumes nothing.
+use mathlib.Core.Path.{_≡_, refl, sym, ap, subst, _∙_}
+use mathlib.Core.Logic.{_⊎_, inl, inr}
+use mathlib.Core.Bool.{Bool, true, false, not, cond, _&&_, _||_, true≢false}
+use mathlib.Core.List.{List}
+use Prim.Native.Nat.{ℕ, suc, _+_, _*_, _/_, _≤_, _<_}
+use native.Mathlib.Omega.{arith}
+use lib.Dec.{eqb, leb, ltb}
+use lib.ListN.{length, drop, getD, drop-of-length-le}
+use lib.Seq.{drop-cons, length-take-le}
+use borrow.Author.Tests.{eqb-true, leb-true, ltb-true, ltb-false, eq-eqb, ne-eqb, lt-ltb, le-ltb}
+use Rattle.machine.specs.Record.{blank}
+use Rattle.machine.specs.Sound.{_⇒_, sound}
+use Rattle.machine.specs.declared.Machine.{Machine}
+use Rattle.machine.specs.Inside.{Formed, Good}
+use Rattle.machine.proofs.Sound.Passed.{if-true, both}
+use Rattle.machine.proofs.Sound.Standing.{Standing, standing}
+use Rattle.script.specs.Pieces.{free}
+use Rattle.runner.specs.declared.Reading.{Reading}
+use Rattle.runner.specs.Listing.{mostLines}
+use Rattle.runner.specs.Kept.{held, begun, Fit}
+use Rattle.runner.specs.Doors.{readable, cleared, refusal}
+use Rattle.runner.proofs.Setups.{few-words}
+
+-- ---- a newline among bytes, looked for one by one
+
+pub newline-here : (bs : List ℕ) (i : ℕ) → i < length bs → getD bs i 0 ≡ 10 → free 10 (drop i bs) ≡ false
+unfolding free
+newline-here bs i l e = ap (free 10) (drop-cons bs i 0 l) ∙ rw (eq-eqb (getD bs i 0) 10 e) refl
+
+pub newline-later : (bs : List ℕ) (i : ℕ) → i < length bs → (getD bs i 0 ≡ 10 → ⊥) → free 10 (drop i bs) ≡ free 10 (drop (i + 1) bs)
+unfolding free
+newline-later bs i l ne =
+    ap (free 10) (drop-cons bs i 0 l) ∙ rw (ne-eqb (getD bs i 0) 10 ne) (ap (λ (n : ℕ). free 10 (drop n bs)) one-more)
+  where
+    one-more : suc i ≡ i + 1
+    one-more = omega arith
+
+pub newline-none : (bs : List ℕ) (i : ℕ) → length bs ≤ i → free 10 (drop i bs) ≡ true
+newline-none bs i l = ap (free 10) (drop-of-length-le bs l) ∙ unfold free in refl
+
+-- ---- room for 32 bytes each
+
+pub room-test : (bytes room : ℕ) → ltb (room / 32) bytes ≡ ltb room (32 * bytes)
+room-test bytes room = go (ltb (room / 32) bytes) refl
+  where
+    go : (b : Bool) → ltb (room / 32) bytes ≡ b → b ≡ ltb room (32 * bytes)
+    go true e = sym (lt-ltb room (32 * bytes) (omega (arith, ltb-true (room / 32) bytes e)))
+    go false e = sym (le-ltb room (32 * bytes) (omega (arith, ltb-false (room / 32) bytes e)))
+
+-- ---- a reading that is not refused
+
+either : (a b : Bool) → a ≡ false → (a || b) ≡ true → b ≡ true
+either true b i e = absurd (true≢false i)
+either false b i e = e
+
+record Taking (r : Reading) (committed pending bytes room : ℕ) : Type 0 where
+  sound-reading : readable r ≡ true
+  committed-long : committed ≡ 64
+  pending-long : pending ≡ 1024
+  enough : 32 * bytes ≤ room
+
+taking : (r : Reading) (committed pending bytes room : ℕ) → refusal r committed pending bytes room ≡ 0 → Taking r committed pending bytes room
+unfolding refusal
+taking r committed pending bytes room e =
+    go (readable r) refl (eqb committed 64) refl (eqb pending 1024) refl (ltb room (32 * bytes)) refl e
+  where
+    go : (a : Bool) → readable r ≡ a → (b : Bool) → eqb committed 64 ≡ b → (c : Bool) → eqb pending 1024 ≡ c
+        → (d : Bool) → ltb room (32 * bytes) ≡ d → _≡_ {A = ℕ} (cond (not a) 2 (cond (not (b && c)) 3 (cond d 12 0))) 0
+        → Taking r committed pending bytes room
+    go true i true j true k false l e =
+        record {
+          sound-reading = i;
+          committed-long = eqb-true committed 64 j;
+          pending-long = eqb-true pending 1024 k;
+          enough = ltb-false room (32 * bytes) l;
+        }
+    go true i true j true k true l e = absurd (omega (arith, e))
+    go true i true j false k d l e = absurd (omega (arith, e))
+    go true i false j c k d l e = absurd (omega (arith, e))
+    go false i b j c k d l e = absurd (omega (arith, e))
+
+module _ (r : Reading) where
+  abbrev few-lines : Bool
+  few-lines = r .going ⇒ leb (r .number) (mostLines + 1)
+
+  abbrev own-machine : Bool
+  own-machine = eqb (r .machine .cores) 0 || (ltb 1 (r .number) && sound (r .machine))
+
+  -- the tests one by one
+  record Passed : Type 0 where
+    some-line : ltb 0 (r .number) ≡ true
+    lines-few : few-lines ≡ true
+    bytes-few : leb (r .length) 65 ≡ true
+    no-newline : free 10 (begun r) ≡ true
+    machine-own : own-machine ≡ true
+
+  passed : readable r ≡ true → Passed
+  unfolding readable
+  passed e =
+      let four = both _ own-machine e in
+      let three = both _ (free 10 (begun r)) (four .0) in
+      let two = both _ (leb (r .length) 65) (three .0) in
+      let one = both (ltb 0 (r .number)) few-lines (two .0) in
+      record { some-line = one .0; lines-few = one .1; bytes-few = two .1; no-newline = three .1; machine-own = four .1 }
+
+  module _ (cs ps : List ℕ) (formed : Formed (r .machine)) (long : length (r .line) ≡ 65) (p : Passed) (committed : length cs ≡ 64)
+      (pending : length ps ≡ 1024) where
+    few : r .going ≡ true → r .number ≤ mostLines + 1
+    few on = leb-true (r .number) (mostLines + 1) (if-true (r .going) _ (p .lines-few) on)
+
+    -- a sound machine, after line 1
+    good : eqb (r .machine .cores) 0 ≡ false → Good (held (r .machine) cs ps)
+    good i =
+        let is = both (ltb 1 (r .number)) (sound (r .machine)) (either _ _ i (p .machine-own)) .1 in
+        let rules : Standing (r .machine) = standing is in
+        record {
+          formed = formed;
+          is-sound = is;
+          committed-long = length-take-le (r .machine .objects) cs (subst (λ (n : ℕ). r .machine .objects ≤ n) (sym committed) (rules .few-objects));
+          pending-long =
+              length-take-le (r .machine .cores * r .machine .objects) ps
+              (subst (λ (n : ℕ). r .machine .cores * r .machine .objects ≤ n) (sym pending)
+              (few-words (r .machine .cores) (r .machine .objects) (rules .few-cores) (rules .few-objects)));
+        }
+
+    passed-fit : Fit (cleared r) cs ps
+    unfolding cleared
+    passed-fit = go (eqb (r .machine .cores) 0) refl
+      where
+        fit : (m : Machine) → (m ≡ blank) ⊎ Good (held m cs ps) → (r .number ≡ 1 → m ≡ blank)
+            → Fit (record { going = r .going; columns = r .columns; number = r .number; line = r .line; length = r .length; machine = m }) cs ps
+        fit m h first =
+            record {
+              holds = record { committed-long = committed; pending-long = pending; blank-or-good = h };
+              line-long = long;
+              few-bytes = leb-true (r .length) 65 (p .bytes-few);
+              no-newline = p .no-newline;
+              some-line = ltb-true 0 (r .number) (p .some-line);
+              few-lines = few;
+              first-blank = first;
+            }
+
+        go : (z : Bool) → eqb (r .machine .cores) 0 ≡ z
+            → Fit (cond z (record { going = r .going; columns = r .columns; number = r .number; line = r .line; length = r .length; machine = blank }) r) cs ps
+        go true i = fit blank (inl refl) (λ e. refl)
+        go false i =
+            let later = both (ltb 1 (r .number)) (sound (r .machine)) (either _ _ i (p .machine-own)) .0 in
+            fit (r .machine) (inr (good i)) (λ e. absurd (omega (arith, e, ltb-true 1 (r .number) later)))
+
+-- what is not refused is fit
+pub taken-fit : (r : Reading) (cs ps : List ℕ) (bytes room : ℕ) → Formed (r .machine) × (length (r .line) ≡ 65)
+    → refusal r (length cs) (length ps) bytes room ≡ 0 → Fit (cleared r) cs ps × (32 * bytes ≤ room)
+taken-fit r cs ps bytes room formed e =
+    let t = taking r (length cs) (length ps) bytes room e in
+    (passed-fit r cs ps (formed .0) (formed .1) (passed r (t .sound-reading)) (t .committed-long) (t .pending-long), t .enough)

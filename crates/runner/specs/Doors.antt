@@ -1,0 +1,32 @@
+-- What the runner's doors take: any reading, tables and output may be handed in. Assumes nothing.
+use Prim.Native.Nat.{ℕ, _+_, _*_}
+use mathlib.Core.Bool.{Bool, not, cond, _&&_, _||_}
+use lib.Dec.{eqb, leb, ltb}
+use Rattle.machine.specs.Record.{blank}
+use Rattle.machine.specs.Sound.{_⇒_, sound}
+use Rattle.script.specs.Pieces.{free}
+use Rattle.runner.specs.declared.Reading.{Reading}
+use Rattle.runner.specs.Kept.{begun}
+use Rattle.runner.specs.Listing.{mostLines}
+
+-- whether a reading is sound: a line has a number, of which none is read past 1,000,001; at most 65 bytes of it are kept, none of them a
+-- newline; and there is no machine, or after line 1 a sound one
+unfoldable pub readable : Reading → Bool
+readable r =
+    ltb 0 (r .number)
+    && (r .going ⇒ leb (r .number) (mostLines + 1))
+    && leb (r .length) 65
+    && free 10 (begun r)
+    && (eqb (r .machine .cores) 0 || (ltb 1 (r .number) && sound (r .machine)))
+
+-- a record with no cores is no machine, whatever else it holds: it is taken as the blank one
+unfoldable pub cleared : Reading → Reading
+cleared r =
+    cond (eqb (r .machine .cores) 0)
+    (record { going = r .going; columns = r .columns; number = r .number; line = r .line; length = r .length; machine = blank }) r
+
+-- the smallest number that applies, or 0: 2 the reading is unsound, 3 either table has not the length of the largest machine's, 12 the
+-- output has not 32 bytes for each byte that is read
+unfoldable pub refusal : Reading → ℕ → ℕ → ℕ → ℕ → ℕ
+refusal r committed pending bytes room =
+    cond (not (readable r)) 2 (cond (not (eqb committed 64 && eqb pending 1024)) 3 (cond (ltb room (32 * bytes)) 12 0))

@@ -1,0 +1,149 @@
+// The runner for callers that have proved what it asks: a reading that is fit for its tables (`Fit`), and room for what may be written.
+// No test of the record is made; the doors in lib.rt test, and then call these.
+use crate::Fed;
+use crate::Reading;
+use crate::calls::set_up;
+use crate::lines::Ended;
+use crate::lines::end_line;
+use machine::inside::access;
+use machine::inside::commit;
+use machine::inside::jobs;
+use machine::inside::transaction;
+use script::Call;
+ghost use mathlib.Core.Path.{_≡_};
+ghost use mathlib.Core.Bool.{_||_};
+ghost use lib.Dec.{eqb, ltb};
+ghost use mathlib.Core.List.{List, [], _++_};
+ghost use Prim.Native.Nat.{ℕ, _*_, _≤_};
+ghost use lib.ListN.{length, take, drop};
+ghost use Rattle.runner.specs.Kept.{Fit, rest, state, fed, finished};
+
+// The next bytes of the script. The output needs 32 bytes for each of them; what is written is what the chunk adds to the listing, and
+// the bytes after it keep what they held. What is kept, with every word of both tables, is what `fed` says.
+//
+// The calls are made in the loop itself: the record goes by value, and a function between the loop and a call would copy it in and out.
+pub fn feed(
+    r: Reading,
+    chunk: &[u8],
+    committed: &mut [u32],
+    pending: &mut [u32],
+    output: &mut [u8],
+) -> Fed
+    requires { ⌜ Fit r (now committed) (now pending) × (32 * length (now chunk) ≤ length (now output)) ⌝ }
+    ensures fit { λ o. ⌜ Fit (o .reading) (now (committed .exit)) (now (pending .exit)) ⌝ }
+    ensures listed { λ o. ⌜ ((bytes : List ℕ) → rest r (now (committed .entry)) (now (pending .entry)) (now (chunk .entry) ++ bytes) ≡ take (o .written) (now (output .exit)) ++ rest (o .reading) (now (committed .exit)) (now (pending .exit)) bytes) ⌝ }
+    ensures after { λ o. ⌜ (o .written ≤ 32 * length (now (chunk .entry))) × (drop (o .written) (now (output .exit)) ≡ drop (o .written) (now (output .entry))) ⌝ }
+    ensures kept { λ o. ⌜ state (o .reading) (now (committed .exit)) (now (pending .exit)) ≡ fed (state r (now (committed .entry)) (now (pending .entry))) (now (chunk .entry)) ⌝ }
+{
+    let mut going = r.going;
+    let mut columns = r.columns;
+    let mut number = r.number;
+    let mut line = r.line;
+    let mut length = r.length;
+    let mut machine = r.machine;
+    let mut written = 0;
+    let mut i = 0;
+    while i < chunk.len() {
+        let b = chunk[i];
+        i += 1;
+        if b == b'\n' {
+            if going {
+                let ended = end_line(
+                    columns,
+                    number,
+                    &line[..length],
+                    machine.cores,
+                    &mut output[written..],
+                );
+                match ended {
+                    Ended::Calls(call) => {
+                        let d = machine.objects as usize;
+                        let n = machine.cores as usize * d;
+                        let done = match call {
+                            Call::Setup(cores, cards) => set_up(cores, cards, committed, pending),
+                            Call::Release(core, job, deadline) => {
+                                jobs::release(machine, core, job, deadline)
+                            }
+                            Call::Begin(core) => transaction::begin(machine, core),
+                            Call::Read(core, card) => {
+                                access::read(machine, core, card, &committed[..d], &pending[..n])
+                            }
+                            Call::Write(core, card, value) => access::write(
+                                machine,
+                                core,
+                                card,
+                                value,
+                                &committed[..d],
+                                &mut pending[..n],
+                            ),
+                            Call::Commit(core) => {
+                                commit::commit(
+                                    machine,
+                                    core,
+                                    &mut committed[..d],
+                                    &mut pending[..n],
+                                )
+                            }
+                            Call::GiveUp(core) => transaction::give_up(machine, core),
+                            Call::Finish(core) => jobs::finish(machine, core),
+                        };
+                        machine = done.machine;
+                        let answer = done.answer;
+                        written += listing::put_line(number, answer, &mut output[written..]);
+                    }
+                    Ended::Lists(listed) => {
+                        going = listed.going;
+                        columns = listed.columns;
+                        written += listed.written;
+                    }
+                }
+                number += 1;
+                length = 0;
+            }
+        } else if length < 65 {
+            line[length] = b;
+            length += 1;
+        }
+    }
+    Fed {
+        reading: Reading {
+            going,
+            columns,
+            number,
+            line,
+            length,
+            machine,
+        },
+        written,
+    }
+}
+
+// Whether a line is left at the script's end: the line of names, even with no byte, or a line that has a byte.
+fn line_left(number: u32, length: usize) -> bool
+    ensures { λ r. ⌜ r ≡ (eqb number 1 || ltb 0 length) ⌝ }
+{
+    if number == 1 {
+        return true;
+    }
+    0 < length
+}
+
+// The script's end: a line without its newline is a line. What is written is the rest of the listing, and the bytes after it keep what
+// they held.
+pub fn finish(r: Reading, committed: &mut [u32], pending: &mut [u32], output: &mut [u8]) -> Fed
+    requires { ⌜ Fit r (now committed) (now pending) × (32 ≤ length (now output)) ⌝ }
+    ensures listed { λ o. ⌜ take (o .written) (now (output .exit)) ≡ rest r (now (committed .entry)) (now (pending .entry)) [] ⌝ }
+    ensures after { λ o. ⌜ (o .written ≤ 32) × (drop (o .written) (now (output .exit)) ≡ drop (o .written) (now (output .entry))) ⌝ }
+    ensures kept { λ o. ⌜ state (o .reading) (now (committed .exit)) (now (pending .exit)) ≡ finished (state r (now (committed .entry)) (now (pending .entry))) ⌝ }
+{
+    let length = r.length;
+    if r.going {
+        if line_left(r.number, length) {
+            return feed(r, b"\n", committed, pending, output);
+        }
+    }
+    Fed {
+        reading: r,
+        written: 0,
+    }
+}

@@ -1,0 +1,112 @@
+// The soundness test of a reading, whatever its fields hold, and the test that tables and output fit it. Assumes nothing.
+use crate::Reading;
+use machine::Machine;
+ghost use mathlib.Core.Path.{_≡_};
+ghost use mathlib.Core.Bool.{_&&_, _||_};
+ghost use Prim.Native.Nat.{_+_};
+ghost use lib.Dec.{eqb, leb, ltb};
+ghost use Rattle.machine.specs.Sound.{_⇒_, sound};
+ghost use Rattle.script.specs.Pieces.{free};
+ghost use Rattle.runner.specs.Listing.{mostLines};
+ghost use Rattle.runner.specs.Doors.{readable, cleared, refusal};
+
+// The greatest number that a line may have while lines are read.
+const LAST_LINE: u32 = 1_000_001;
+
+// Whether no byte is a newline.
+fn no_newline(bytes: &[u8]) -> bool
+    ensures { λ r. ⌜ r ≡ free 10 (now (bytes .entry)) ⌝ }
+{
+    let mut i = 0;
+    while i < bytes.len() {
+        if bytes[i] == b'\n' {
+            return false;
+        }
+        i += 1;
+    }
+    true
+}
+
+// Whether a line may have this number.
+fn is_line(number: u32, going: bool) -> bool
+    ensures { λ r. ⌜ r ≡ (ltb 0 number && (going ⇒ leb number (mostLines + 1))) ⌝ }
+{
+    if number == 0 {
+        return false;
+    }
+    if going {
+        return number <= LAST_LINE;
+    }
+    true
+}
+
+// Whether there is no machine, or a sound one after line 1.
+fn machine_sound(number: u32, m: Machine) -> bool
+    ensures { λ r. ⌜ r ≡ (eqb (m .cores) 0 || (ltb 1 number && sound m)) ⌝ }
+{
+    if m.cores == 0 {
+        return true;
+    }
+    if number <= 1 {
+        return false;
+    }
+    m.sound()
+}
+
+// Whether the reading is sound.
+fn is_readable(r: Reading) -> bool
+    ensures { λ b. ⌜ b ≡ readable r ⌝ }
+{
+    if !is_line(r.number, r.going) {
+        return false;
+    }
+    let length = r.length;
+    if 65 < length {
+        return false;
+    }
+    let line = r.line;
+    if !no_newline(&line[..length]) {
+        return false;
+    }
+    let m = r.machine;
+    machine_sound(r.number, m)
+}
+
+// The number of the refusal, or 0.
+pub fn refusal_of(r: Reading, committed: usize, pending: usize, bytes: usize, room: usize) -> u8
+    ensures { λ n. ⌜ n ≡ refusal r committed pending bytes room ⌝ }
+{
+    if !is_readable(r) {
+        return 2;
+    }
+    if committed != 64 {
+        return 3;
+    }
+    if pending != 1024 {
+        return 3;
+    }
+    if room / 32 < bytes {
+        return 12;
+    }
+    0
+}
+
+// The reading, with a blank record where there is no machine.
+pub fn clear(r: Reading) -> Reading
+    ensures { λ s. ⌜ s ≡ cleared r ⌝ }
+{
+    let m = r.machine;
+    if m.cores == 0 {
+        let columns = r.columns;
+        let line = r.line;
+        return Reading {
+            going: r.going,
+            columns,
+            number: r.number,
+            line,
+            length: r.length,
+            machine: Machine::blank(),
+        };
+    }
+    r
+}
