@@ -9,8 +9,8 @@ use Rattle.runner.specs.declared.Reading.{Reading}
 use Rattle.runner.specs.Kept.{begun}
 use Rattle.runner.specs.Listing.{mostLines}
 
--- whether a reading is sound: a line has a number, of which none is read past 1,000,001; at most 65 bytes of it are kept, none of them a
--- newline; and there is no machine, or after line 1 a sound one
+-- whether a reading is sound: its line has a number, at most 1,000,001 while lines are read; at most 65 bytes of it are kept, none of
+-- them a newline; and there is no machine, or after line 1 a sound one
 unfoldable pub readable : Reading → Bool
 readable r =
     ltb 0 (r .number)
