@@ -1,6 +1,6 @@
--- What the doors test makes a reading fit. Assumes nothing.
+-- What the doors do not refuse is fit, and what is fit they do not refuse. Assumes nothing.
 use mathlib.Core.Path.{_≡_, refl, sym, ap, subst, _∙_}
-use mathlib.Core.Logic.{_⊎_, inl, inr}
+use mathlib.Core.Logic.{_⊎_, inl, inr, ⊎-elim}
 use mathlib.Core.Bool.{Bool, true, false, not, cond, _&&_, _||_, true≢false}
 use mathlib.Core.List.{List}
 use Prim.Native.Nat.{ℕ, suc, _+_, _*_, _/_, _≤_, _<_}
@@ -8,12 +8,12 @@ use native.Mathlib.Omega.{arith}
 use lib.Dec.{eqb, leb, ltb}
 use lib.ListN.{length, drop, getD, drop-of-length-le}
 use lib.Seq.{drop-cons, length-take-le}
-use borrow.Author.Tests.{eqb-true, leb-true, ltb-true, ltb-false, eq-eqb, ne-eqb, lt-ltb, le-ltb}
+use borrow.Author.Tests.{eqb-true, leb-true, ltb-true, ltb-false, eq-eqb, ne-eqb, lt-ltb, le-ltb, le-leb}
 use Rattle.machine.specs.Record.{blank}
 use Rattle.machine.specs.Sound.{_⇒_, sound}
 use Rattle.machine.specs.declared.Machine.{Machine}
 use Rattle.machine.specs.Inside.{Formed, Good}
-use Rattle.machine.proofs.Sound.Passed.{if-true, both}
+use Rattle.machine.proofs.Sound.Passed.{if-true, true-if, both}
 use Rattle.machine.proofs.Sound.Standing.{Standing, standing}
 use Rattle.script.specs.Pieces.{free}
 use Rattle.runner.specs.declared.Reading.{Reading}
@@ -154,3 +154,65 @@ pub taken-fit : (r : Reading) (cs ps : List ℕ) (bytes room : ℕ) → Formed (
 taken-fit r cs ps bytes room formed e =
     let t = taking r (length cs) (length ps) bytes room e in
     (passed-fit r cs ps (formed .0) (formed .1) (passed r (t .sound-reading)) (t .committed-long) (t .pending-long), t .enough)
+
+-- ---- what is fit is not refused
+
+or-true : (a : Bool) → (a || true) ≡ true
+or-true true = refl
+or-true false = refl
+
+module _ (r : Reading) (cs ps : List ℕ) (f : Fit r cs ps) where
+  no-cores : r .machine ≡ blank → eqb (r .machine .cores) 0 ≡ true
+  no-cores b = eq-eqb (r .machine .cores) 0 (ap (λ (m : Machine). m .cores) b)
+
+  cores : Good (held (r .machine) cs ps) → 0 < r .machine .cores
+  cores g = standing (g .is-sound) .some-cores
+
+  -- a machine comes after line 1
+  later : Good (held (r .machine) cs ps) → 1 < r .number
+  later g = go (ltb 1 (r .number)) refl
+    where
+      go : (b : Bool) → ltb 1 (r .number) ≡ b → 1 < r .number
+      go true e = ltb-true 1 (r .number) e
+      go false e =
+          let first : r .number ≡ 1 = omega (arith, f .some-line, ltb-false 1 (r .number) e) in
+          absurd (omega (arith, cores g, ap (λ (m : Machine). m .cores) (f .first-blank first)))
+
+  machine-fits : own-machine r ≡ true
+  machine-fits =
+      ⊎-elim (λ b. rw (no-cores b) refl)
+      (λ g. rw (lt-ltb 1 (r .number) (later g), g .is-sound) (or-true (eqb (r .machine .cores) 0))) (f .holds .blank-or-good)
+
+  fit-readable : readable r ≡ true
+  unfolding readable
+  fit-readable =
+      rw (
+        lt-ltb 0 (r .number) (f .some-line),
+        true-if (r .going) (leb (r .number) (mostLines + 1)) (λ on. le-leb (r .number) (mostLines + 1) (f .few-lines on)),
+        le-leb (r .length) 65 (f .few-bytes),
+        f .no-newline,
+        machine-fits,
+      ) refl
+
+  pub not-refused : (bytes room : ℕ) → 32 * bytes ≤ room → refusal r (length cs) (length ps) bytes room ≡ 0
+  unfolding refusal
+  not-refused bytes room enough =
+      rw (
+        fit-readable,
+        eq-eqb (length cs) 64 (f .holds .committed-long),
+        eq-eqb (length ps) 1024 (f .holds .pending-long),
+        le-ltb room (32 * bytes) enough,
+      ) refl
+
+  -- and is taken as it is
+  pub fit-cleared : cleared r ≡ r
+  unfolding cleared
+  fit-cleared =
+      ⊎-elim
+      (λ b.
+      rw (no-cores b)
+      (ap
+      (λ (m : Machine).
+      record { going = r .going; columns = r .columns; number = r .number; line = r .line; length = r .length; machine = m })
+      (sym b)))
+      (λ g. rw (ne-eqb (r .machine .cores) 0 (λ e. omega (arith, e, cores g))) refl) (f .holds .blank-or-good)

@@ -10,7 +10,7 @@ mod Written
 mod Finishing
 mod Feeding
 mod Typed
-mod Doors
+pub mod Doors
 pub mod Laws
 pub mod Runs
 pub mod Bounds

@@ -13,7 +13,7 @@ ghost use mathlib.Core.List.{List, [], _++_};
 ghost use Prim.Native.Nat.{ℕ, _≤_};
 ghost use lib.Dec.{eqb};
 ghost use lib.ListN.{length, take, drop};
-ghost use Rattle.runner.specs.Kept.{rest, state, started, fed, finished};
+ghost use Rattle.runner.specs.Kept.{Fit, rest, state, started, fed, finished};
 ghost use Rattle.runner.specs.Doors.{cleared, refusal};
 
 mod calls;
@@ -69,8 +69,9 @@ impl Reading {
     }
 
     // The next bytes of the script, with the tables of the largest machine, 64 and 1,024 words. What is written is what the chunk adds
-    // to the listing, and the bytes after it keep what they held. What is kept, with every word of both tables, is what `fed` says. 2
-    // unsound reading, 3 wrong table, 12 the output has not 32 bytes for each byte of the chunk.
+    // to the listing, and the bytes after it keep what they held. What is kept, with every word of both tables, is what `fed` says, and
+    // the doors take it again with these tables (proofs/Doors.antt: `not-refused`). 2 unsound reading, 3 wrong table, 12 the output has
+    // not 32 bytes for each byte of the chunk.
     pub fn feed(
         self,
         chunk: &[u8],
@@ -80,6 +81,7 @@ impl Reading {
     ) -> Taken
         ensures refusal { λ o. ⌜ o .refusal ≡ refusal self (length (now (committed .entry))) (length (now (pending .entry))) (length (now (chunk .entry))) (length (now (output .entry))) ⌝ }
         ensures kept { λ o. ⌜ state (o .reading) (now (committed .exit)) (now (pending .exit)) ≡ cond (eqb (o .refusal) 0) (fed (state (cleared self) (now (committed .entry)) (now (pending .entry))) (now (chunk .entry))) (state self (now (committed .entry)) (now (pending .entry))) ⌝ }
+        ensures fit { λ o. ⌜ (o .refusal ≡ 0 → Fit (o .reading) (now (committed .exit)) (now (pending .exit))) ⌝ }
         ensures listed { λ o. ⌜ (o .refusal ≡ 0 → (bytes : List ℕ) → rest (cleared self) (now (committed .entry)) (now (pending .entry)) (now (chunk .entry) ++ bytes) ≡ take (o .written) (now (output .exit)) ++ rest (o .reading) (now (committed .exit)) (now (pending .exit)) bytes) ⌝ }
         ensures after { λ o. ⌜ (o .written ≤ length (now (output .entry))) × (eqb (o .refusal) 0 ≡ false → o .written ≡ 0) × (drop (o .written) (now (output .exit)) ≡ drop (o .written) (now (output .entry))) ⌝ }
     {

@@ -22,7 +22,7 @@ refusal-of-requires c κs = search needs
 returns : tie.Need-returns
 returns c = (
   c .before .refusal-of .ensures,
-  (rw (ne-eqb _ 0 (c .if1 .taken)) refl, ((λ e. absurd (c .if1 .taken e)), (omega arith, (λ e. refl), refl))),
+  (rw (ne-eqb _ 0 (c .if1 .taken)) refl, ((λ e. absurd (c .if1 .taken e)), ((λ e. absurd (c .if1 .taken e)), (omega arith, (λ e. refl), refl)))),
 )
 
 clear-requires : tie.Need-clear-requires
@@ -59,8 +59,11 @@ returns-2 c =
       (
         did .1 .1 .1 ∙ ap (λ (r : Reading). fed (state r (now (start .committed)) (now (start .pending))) (now (start .chunk))) (clear .clear .ensures),
         (
-          (λ e bytes. ap (λ (r : Reading). rest r (now (start .committed)) (now (start .pending)) (now (start .chunk) ++ bytes)) (sym (clear .clear .ensures)) ∙ did .1 .0 bytes),
-          (omega (arith, did .1 .1 .0 .0, feed-requires (done .before) (done .feed .lifetimes) .1), (λ e. absurd (true≢false e)), did .1 .1 .0 .1),
+          (λ e. did .0),
+          (
+            (λ e bytes. ap (λ (r : Reading). rest r (now (start .committed)) (now (start .pending)) (now (start .chunk) ++ bytes)) (sym (clear .clear .ensures)) ∙ did .1 .0 bytes),
+            (omega (arith, did .1 .1 .0 .0, feed-requires (done .before) (done .feed .lifetimes) .1), (λ e. absurd (true≢false e)), did .1 .1 .0 .1),
+          ),
         ),
       ),
     )
