@@ -76,7 +76,7 @@ fn chunk_end(length: usize, at: usize) -> usize
 }
 
 // Where the next chunk begins: at the script's end, once nothing more is read.
-fn next_from(going: bool, end: usize, length: usize) -> usize
+fn resume_at(going: bool, end: usize, length: usize) -> usize
     ensures { λ r. ⌜ r ≡ cond going end length ⌝ }
 {
     if going { end } else { length }
@@ -107,7 +107,7 @@ fn list_into(script: &[u8], output: &mut [u8]) -> usize
         reading = fed.reading;
         let k = fed.written;
         listing::put_bytes(output, total, &text[..k]);
-        at = next_from(reading.going, end, script.len());
+        at = resume_at(reading.going, end, script.len());
         total += k;
     }
     let k = inside::finish(reading, &mut committed, &mut pending, &mut text).written;

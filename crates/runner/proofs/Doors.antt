@@ -157,16 +157,15 @@ taken-fit r cs ps bytes room formed e =
 
 -- ---- what is fit is not refused
 
-or-true : (a : Bool) → (a || true) ≡ true
-or-true true = refl
-or-true false = refl
-
 module _ (r : Reading) (cs ps : List ℕ) (f : Fit r cs ps) where
   no-cores : r .machine ≡ blank → eqb (r .machine .cores) 0 ≡ true
   no-cores b = eq-eqb (r .machine .cores) 0 (ap (λ (m : Machine). m .cores) b)
 
   cores : Good (held (r .machine) cs ps) → 0 < r .machine .cores
   cores g = standing (g .is-sound) .some-cores
+
+  some-cores : Good (held (r .machine) cs ps) → eqb (r .machine .cores) 0 ≡ false
+  some-cores g = ne-eqb (r .machine .cores) 0 (λ e. omega (arith, e, cores g))
 
   -- a machine comes after line 1
   later : Good (held (r .machine) cs ps) → 1 < r .number
@@ -181,7 +180,7 @@ module _ (r : Reading) (cs ps : List ℕ) (f : Fit r cs ps) where
   machine-fits : own-machine r ≡ true
   machine-fits =
       ⊎-elim (λ b. rw (no-cores b) refl)
-      (λ g. rw (lt-ltb 1 (r .number) (later g), g .is-sound) (or-true (eqb (r .machine .cores) 0))) (f .holds .blank-or-good)
+      (λ g. rw (some-cores g, lt-ltb 1 (r .number) (later g), g .is-sound) refl) (f .holds .blank-or-good)
 
   fit-readable : readable r ≡ true
   unfolding readable
@@ -215,4 +214,4 @@ module _ (r : Reading) (cs ps : List ℕ) (f : Fit r cs ps) where
       (λ (m : Machine).
       record { going = r .going; columns = r .columns; number = r .number; line = r .line; length = r .length; machine = m })
       (sym b)))
-      (λ g. rw (ne-eqb (r .machine .cores) 0 (λ e. omega (arith, e, cores g))) refl) (f .holds .blank-or-good)
+      (λ g. rw (some-cores g) refl) (f .holds .blank-or-good)

@@ -79,8 +79,8 @@ slice-aggregate-put-bytes-2 c = sym (length-take-le _ _ (array-share-prefix-text
 put-bytes-requires-2 : tie.Need-put-bytes-requires-2 Inv-loop μ-loop
 put-bytes-requires-2 c κs = search needs
 
-next-from-requires : tie.Need-next-from-requires Inv-loop μ-loop
-next-from-requires c κs = search needs
+resume-at-requires : tie.Need-resume-at-requires Inv-loop μ-loop
+resume-at-requires c κs = search needs
 
 loop-again : tie.Need-loop-again Inv-loop μ-loop
 loop-again c =
@@ -91,13 +91,13 @@ loop-again c =
     running-on _ _ _ _ _ _ _ _ _
     (running-goes _ _ _ _ _ _ _ _ _ (at .loop .inv) _ _ _ _ _ _ _ (chunk .chunk-end .ensures .0) (chunk .chunk-end .ensures .1) (done .feed .ensures .0)
     (done .feed .kept .1 .1 .1 .1 .0 ∙ at .loop .inv .scratch-long) (few-bytes _ _ _ _ (chunk .chunk-end .ensures .2) (done .feed .ensures .1 .1 .0 .0))
-    (done .feed .ensures .1 .0) (c .before .before .before .put-bytes2 .ensures .1)) _ (c .next-from .ensures)
+    (done .feed .ensures .1 .0) (c .before .before .before .put-bytes2 .ensures .1)) _ (c .resume-at .ensures)
 
 loop-less : tie.Need-loop-less Inv-loop μ-loop
 loop-less c =
     let done = c .before .before .before .before .before .before .before .before .before .before in
     let chunk = done .before .before .before .before .before in
-    less-left (done .feed .result .reading .going) _ _ _ _ (chunk .chunk-end .ensures .0) (chunk .chunk-end .ensures .1) (c .next-from .ensures)
+    less-left (done .feed .result .reading .going) _ _ _ _ (chunk .chunk-end .ensures .0) (chunk .chunk-end .ensures .1) (c .resume-at .ensures)
 
 add-total : tie.Need-add-total Inv-loop μ-loop
 add-total c =
@@ -164,7 +164,7 @@ list-into-spec =
     array-share-prefix-text-2
     slice-aggregate-put-bytes-2
     put-bytes-requires-2
-    next-from-requires
+    resume-at-requires
     add-total
     loop-less
     loop-again
