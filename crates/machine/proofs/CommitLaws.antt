@@ -23,36 +23,6 @@ use Rattle.machine.proofs.CallLaws.{skips, hits, none-holds, is-sound, 
 use Rattle.machine.proofs.AccessLaws.{refused-lent, accepted-lent}
 use Rattle.machine.proofs.Front.{Stands, stands-next, stands-stored, stands-kept, stands-all}
 
--- ---- two transactions
-
--- u is the data set of b
-pub conflict-left : (a b : Core) (u : ℕ) → u ≡ dataSet b → meeting (a .writes) u ≡ true → true ≡ conflict a b
-conflict-left a b u e p = rw (sym e, p)
-
--- u is the data set of b, v that of a
-pub conflict-right : (a b : Core) (u v : ℕ) → u ≡ dataSet b → v ≡ dataSet a → meeting (a .writes) u ≡ false
-    → meeting (b .writes) v ≡ conflict a b
-conflict-right a b u v e g p = rw (sym e, sym g, p)
-
--- ---- one core after another's commit
-
-module _ (ws : ℕ) (k : Core) where
-  -- u is the data set of k
-  pub data-met : (u : ℕ) → k .active ≡ true → u ≡ dataSet k → meeting ws u ≡ (k .active && meeting ws (dataSet k))
-  data-met u on e = rw (on, sym e)
-
-  pub struck-hit : (k .active && meeting ws (dataSet k)) ≡ true → aborted k ≡ struck ws k
-  unfolding struck
-  struck-hit p = rw p
-
-  pub struck-missed : (k .active && meeting ws (dataSet k)) ≡ false → k ≡ struck ws k
-  unfolding struck
-  struck-missed p = rw p
-
-pub struck-idle : (ws : ℕ) (k : Core) → k .active ≡ false → k ≡ struck ws k
-unfolding struck
-struck-idle ws k off = rw off
-
 -- ---- the loop over the cores
 
 module _ (ws c : ℕ) (old : List Core) where

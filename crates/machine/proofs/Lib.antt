@@ -1,6 +1,5 @@
 mod Tally
 mod Entries
-mod JobLaws
 mod CallLaws
 mod AccessLaws
 mod DoorLaws
@@ -8,7 +7,6 @@ mod JobCalls
 mod Facts
 mod Front
 mod CommitLaws
-pub mod TestLaws
 mod SoundLaws
 pub mod Refusals
 mod Told

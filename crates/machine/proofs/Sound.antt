@@ -1,8 +1,6 @@
 mod Turns
 pub mod Passed
 pub mod Standing
-pub mod Jobs
-mod Cores
 mod OneCore
 mod Commit
 pub mod Keeps

@@ -120,3 +120,18 @@ tally-but-one (suc n) f g c h = go (eqb n c) refl (f n) refl (g n) refl (tally-b
 -- one below n that passes is counted
 pub tally-some : (n : ℕ) (f : ℕ → Bool) (c : ℕ) → c < n → f c ≡ true → 0 < tally n f
 tally-some n f c l e = omega (arith, tally-less n (λ i. false) f c l refl e (λ i m p. absurd (true≢false (sym p))))
+
+-- ---- counts, one by one
+
+pub tally-none : (f : ℕ → Bool) → _≡_ {A = ℕ} 0 (tally 0 f)
+unfolding tally
+tally-none f = refl
+
+-- one more is counted, or not
+pub tally-counts : (n i : ℕ) (f : ℕ → Bool) → n ≡ tally i f → f i ≡ true → n + 1 ≡ tally (i + 1) f
+unfolding tally
+tally-counts n i f e t = sym (ap (λ (x : ℕ). tally x f) (add-one i) ∙ rw t (omega arith))
+
+pub tally-skips : (n i : ℕ) (f : ℕ → Bool) → n ≡ tally i f → f i ≡ false → n ≡ tally (i + 1) f
+unfolding tally
+tally-skips n i f e t = sym (ap (λ (x : ℕ). tally x f) (add-one i) ∙ rw t (omega arith))

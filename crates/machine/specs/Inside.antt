@@ -15,12 +15,7 @@ pub record Fine (w : World) : Type 0 where
   pub committed-long : length (w .committed) ≡ w .machine .objects
   pub pending-long : length (w .pending) ≡ w .machine .cores * w .machine .objects
 
--- what the types of the code say of a core and of a record: the lengths of the lists, and that numbers fit their words
-pub record Formed-core (k : Core) : Type 0 where
-  pub jobs-long : length (k .jobs) ≡ 8
-  pub reads-fit : k .reads < 2 ^ 64
-  pub writes-fit : k .writes < 2 ^ 64
-
+-- what the types of the code say of a record: the lengths of the lists, and that numbers fit their words
 pub record Formed (m : Machine) : Type 0 where
   pub core-long : length (m .core) ≡ 16
   pub versions-long : length (m .versions) ≡ 64

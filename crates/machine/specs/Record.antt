@@ -9,27 +9,8 @@ use Rattle.machine.specs.declared.Machine.{Machine}
 use Rattle.machine.specs.declared.Core.{Core}
 use Rattle.machine.specs.declared.Job.{Job}
 
--- what stands in an unused job place
-abbrev pub noJob : Job
-noJob = record { number = 0; deadline = 0 }
-
--- what is read past the end of the list of cores, which no call does
-abbrev pub noCore : Core
-noCore = record { jobs = []; count = 0; active = false; owner = 0; ticket = 0; aborts = 0; zombie = false; reads = 0; writes = 0 }
-
 abbrev pub coreAt : Machine → ℕ → Core
 coreAt m c = getD (m .core) c noCore
-
-abbrev pub jobAt : Core → ℕ → Job
-jobAt k p = getD (k .jobs) p noJob
-
--- a core with these jobs and no transaction: empty sets, no mark, owner's place, ticket and setbacks 0
-abbrev pub idle : List Job → ℕ → Core
-idle jobs n = record { jobs = jobs; count = n; active = false; owner = 0; ticket = 0; aborts = 0; zombie = false; reads = 0; writes = 0 }
-
--- a core with no job and no transaction
-abbrev pub blankCore : Core
-blankCore = idle (replicate 8 noJob) 0
 
 -- the machine has 1 to 16 cores and 1 to 64 cards
 abbrev pub sizesInRange : ℕ → ℕ → Bool
@@ -56,20 +37,7 @@ putCore m c k =
       versions = m .versions;
     }
 
--- data set: read set and write set together
-abbrev pub dataSet : Core → ℕ
-dataSet k = joined (k .reads) (k .writes)
-
 -- how many of the numbers below n pass the test f
 unfoldable pub tally : ℕ → (ℕ → Bool) → ℕ
 tally zero f = 0
 tally (suc n) f = cond (f n) 1 0 + tally n f
-
--- the place of the job of least deadline among the first n, the first released among equals
-unfoldable pub least : List Job → ℕ → ℕ
-least jobs zero = 0
-least jobs (suc n) = cond (ltb (getD jobs n noJob .deadline) (getD jobs (least jobs n) noJob .deadline)) n (least jobs n)
-
--- the place of the running job: the transaction's own job while one is in progress, else the job of least deadline
-unfoldable pub running : Core → ℕ
-running k = cond (k .active) (k .owner) (least (k .jobs) (k .count))

@@ -99,25 +99,6 @@ setup cores objects committed pending =
 
 -- ---- release: the job joins the end of the core's list
 
--- a core with another list of jobs, and its transaction as it was
-abbrev pub withList : Core → List Job → ℕ → Core
-withList k jobs n =
-    record {
-      jobs = jobs;
-      count = n;
-      active = k .active;
-      owner = k .owner;
-      ticket = k .ticket;
-      aborts = k .aborts;
-      zombie = k .zombie;
-      reads = k .reads;
-      writes = k .writes;
-    }
-
--- the job joins the end of the list
-abbrev pub withJob : Core → Job → Core
-withJob k j = withList k (set (k .jobs) (k .count) j) (k .count + 1)
-
 unfoldable pub released : Machine → ℕ → Job → Outcome
 released m c j =
     let k : Core = withJob (coreAt m c) j in
@@ -142,19 +123,7 @@ begun m c =
             tickets = m .tickets + 1;
             commits = m .commits;
             «give_ups» = m .«give_ups»;
-            core =
-                set (m .core) c
-                (record {
-                  jobs = k .jobs;
-                  count = k .count;
-                  active = true;
-                  owner = running k;
-                  ticket = m .tickets;
-                  aborts = 0;
-                  zombie = false;
-                  reads = 0;
-                  writes = 0;
-                });
+            core = set (m .core) c (withTransaction k (m .tickets));
             versions = m .versions;
           };
     }
@@ -168,25 +137,6 @@ begin m c =
 
 -- ---- a marked transaction's next read, write or commit answers set back and takes away the mark
 
--- a core whose transaction has this ticket, these setbacks, this mark and these sets; its job stays
-abbrev pub attempting : Core → ℕ → ℕ → Bool → ℕ → ℕ → Core
-attempting k ticket aborts zombie rs ws =
-    record {
-      jobs = k .jobs;
-      count = k .count;
-      active = k .active;
-      owner = k .owner;
-      ticket = ticket;
-      aborts = aborts;
-      zombie = zombie;
-      reads = rs;
-      writes = ws;
-    }
-
--- the mark is taken away, and nothing more
-abbrev pub unmarked : Core → Core
-unmarked k = attempting k (k .ticket) (k .aborts) false (k .reads) (k .writes)
-
 unfoldable pub told : World → ℕ → Result
 told w c = record { answer = SetBack; world = withMachine w (putCore (w .machine) c (unmarked (coreAt (w .machine) c))) }
 
@@ -196,9 +146,6 @@ accessRefusal w c d =
     first
     ((unsound (w .machine), 2) ∷ (wrongTables w, 3) ∷ (noSuchCore (w .machine) c, 4) ∷ (noSuchObject (w .machine) d, 5)
     ∷ (not (inProgress (w .machine) c), 9) ∷ [])
-
-abbrev pub withSets : Core → ℕ → ℕ → Core
-withSets k rs ws = attempting k (k .ticket) (k .aborts) (k .zombie) rs ws
 
 -- the word of the pending table for core c and card d
 abbrev pub slot : Machine → ℕ → ℕ → ℕ
@@ -215,7 +162,7 @@ valued w c d =
     let k : Core = coreAt (w .machine) c in
     record {
       answer = Value (valueRead w c d) (getD (w .machine .versions) d 0);
-      world = withMachine w (putCore (w .machine) c (withSets k (added (k .reads) d) (k .writes)));
+      world = withMachine w (putCore (w .machine) c (withRead k d));
     }
 
 unfoldable pub read : World → ℕ → ℕ → Result
@@ -230,7 +177,7 @@ written w c d v =
       answer = Written;
       world =
           record {
-            machine = putCore (w .machine) c (withSets k (k .reads) (added (k .writes) d));
+            machine = putCore (w .machine) c (withWrite k d);
             committed = w .committed;
             pending = set (w .pending) (slot (w .machine) c d) v;
           };
@@ -241,13 +188,9 @@ write w c d v = unlessLent (accessRefusal w c d) w (cond (coreAt (w .machine) c 
 
 -- ---- commit
 
--- two transactions conflict if the write set of either meets the data set of the other
-abbrev pub conflict : Core → Core → Bool
-conflict a b = meeting (a .writes) (dataSet b) || meeting (b .writes) (dataSet a)
-
 -- core e holds a conflicting transaction with a smaller ticket than core c's
 unfoldable pub contender : Machine → ℕ → ℕ → Bool
-contender m c e = coreAt m e .active && ltb (coreAt m e .ticket) (coreAt m c .ticket) && conflict (coreAt m c) (coreAt m e)
+contender m c e = holdsBack (coreAt m e) (coreAt m c)
 
 unfoldable pub blocked : Machine → ℕ → Bool
 blocked m c = some 16 (contender m c)
@@ -260,22 +203,6 @@ leastOf (suc n) f = cond (some n f) (leastOf n f) n
 -- a core that waits may name, where the commit is blocked: the least
 abbrev pub firstAhead : Machine → ℕ → ℕ
 firstAhead m c = leastOf 16 (contender m c)
-
--- set back: the sets are emptied, the setbacks rise by one, it is marked; it keeps its ticket
-abbrev pub aborted : Core → Core
-aborted k = attempting k (k .ticket) (k .aborts + 1) true 0 0
-
--- core k has a transaction whose data set meets the write set ws
-abbrev pub isStruck : ℕ → Core → Bool
-isStruck ws k = k .active && meeting ws (dataSet k)
-
--- such a transaction is set back
-unfoldable pub struck : ℕ → Core → Core
-struck ws k = cond (isStruck ws k) (aborted k) k
-
--- the transaction of a core ends; its jobs stay
-abbrev pub over : Core → Core
-over k = idle (k .jobs) (k .count)
 
 -- every core but c by `struck`, core c by `over`; the list starts with core i
 unfoldable pub cleared : ℕ → ℕ → ℕ → List Core → List Core
@@ -353,16 +280,12 @@ giveUp m c = unless (first ((unsound m, 2) ∷ (noSuchCore m c, 4) ∷ (not (inP
 
 -- ---- finish: the running job leaves the list, the others keep their order; its number is the answer
 
--- the list without the job at place p, an unused place at its end
-abbrev pub without : List Job → ℕ → List Job
-without jobs p = take p jobs ++ drop (suc p) jobs ++ (noJob ∷ [])
-
 unfoldable pub finished : Machine → ℕ → Outcome
 finished m c =
     let k : Core = coreAt m c in
     record {
       answer = Finished (jobAt k (running k) .number);
-      machine = putCore m c (withList k (without (k .jobs) (running k)) (k .count - 1));
+      machine = putCore m c (withoutJob k (running k));
     }
 
 unfoldable pub finish : Machine → ℕ → Outcome

@@ -9,10 +9,6 @@ use Rattle.machine.specs.declared.Core.{Core}
 use Rattle.machine.specs.declared.Job.{Job}
 use Rattle.machine.specs.Record.{coreAt, jobAt, tally, sizesInRange}
 
-infixr 25 _⇒_
-abbrev pub _⇒_ : Bool → Bool → Bool
-a ⇒ b = not a || b
-
 -- a rule that each of the sixteen places for cores keeps
 abbrev pub eachCore : (Core → Bool) → Machine → Bool
 eachCore rule m = each 16 (λ c. rule (coreAt m c))
@@ -23,39 +19,31 @@ inRange m = sizesInRange (m .cores) (m .objects)
 
 -- sets lie within the cards
 unfoldable pub setsWithin : Machine → Bool
-setsWithin m = eachCore (λ k. below (k .reads) (m .objects) && below (k .writes) (m .objects)) m
+setsWithin m = eachCore (Tidy.setsWithin (m .objects)) m
 
 -- a transaction needs a job: its owner's place is one of the list's
 unfoldable pub ownerListed : Machine → Bool
-ownerListed = eachCore (λ k. k .active ⇒ ltb (k .owner) (k .count))
-
--- a core's sets are empty
-abbrev pub emptySets : Core → Bool
-emptySets k = eqb (k .reads) 0 && eqb (k .writes) 0
+ownerListed = eachCore Tidy.ownerListed
 
 -- a core without a transaction has empty sets, no mark, and owner's place, ticket and setbacks 0
 unfoldable pub idleClear : Machine → Bool
-idleClear =
-    eachCore (λ k. not (k .active) ⇒ emptySets k && not (k .zombie) && eqb (k .owner) 0 && eqb (k .ticket) 0 && eqb (k .aborts) 0)
+idleClear = eachCore Tidy.idleClear
 
 -- a marked one has empty sets
 unfoldable pub zombieEmpty : Machine → Bool
-zombieEmpty = eachCore (λ k. k .zombie ⇒ emptySets k)
+zombieEmpty = eachCore Tidy.zombieEmpty
 
 -- a list has at most 8 jobs
 unfoldable pub atMostEight : Machine → Bool
-atMostEight = eachCore (λ k. leb (k .count) 8)
-
-abbrev pub zeroJob : Job → Bool
-zeroJob j = eqb (j .number) 0 && eqb (j .deadline) 0
+atMostEight = eachCore Tidy.atMostEight
 
 -- unused job places hold zeros
 unfoldable pub unusedJobs : Machine → Bool
-unusedJobs = eachCore (λ k. each 8 (λ p. leb (k .count) p ⇒ zeroJob (jobAt k p)))
+unusedJobs = eachCore Tidy.unusedJobs
 
 -- places for cores that the machine lacks hold zeros: no jobs and no transaction, so by the rules above all is 0
 unfoldable pub lackedCores : Machine → Bool
-lackedCores m = each 16 (λ c. leb (m .cores) c ⇒ eqb (coreAt m c .count) 0 && not (coreAt m c .active))
+lackedCores m = each 16 (λ c. leb (m .cores) c ⇒ Tidy.unused (coreAt m c))
 
 -- places for cards that the machine lacks hold zeros
 unfoldable pub lackedObjects : Machine → Bool
@@ -63,7 +51,7 @@ lackedObjects m = each 64 (λ d. leb (m .objects) d ⇒ eqb (getD (m .versions) 
 
 -- while a transaction is in progress, every job listed before its own has a greater deadline
 unfoldable pub ownerFirst : Machine → Bool
-ownerFirst = eachCore (λ k. k .active ⇒ each 8 (λ p. ltb p (k .owner) ⇒ ltb (jobAt k (k .owner) .deadline) (jobAt k p .deadline)))
+ownerFirst = eachCore Tidy.ownerFirst
 
 -- tickets in progress differ
 unfoldable pub ticketsDiffer : Machine → Bool

@@ -1,24 +1,13 @@
 -- Soundness is fifteen tests, and all of them pass. Assumes nothing.
-use mathlib.Core.Path.{_≡_, refl, sym}
-use mathlib.Core.Bool.{Bool, true, false, _&&_, true≢false}
+use mathlib.Core.Path.{_≡_}
+use mathlib.Core.Bool.{true, _&&_}
 use Prim.Native.Nat.{ℕ, _≤_, _<_}
 use lib.Dec.{ltb, leb}
 use borrow.Author.Tests.{ltb-true, leb-true}
-use Rattle.objset.proofs.Laws.{both-left, both-right}
+use Rattle.core.proofs.TestLaws.{both}
 use Rattle.machine.specs.declared.Machine.{Machine}
 use Rattle.machine.specs.Record.{sizesInRange}
-use Rattle.machine.specs.Sound.{_⇒_, inRange, setsWithin, ownerListed, idleClear, zombieEmpty, atMostEight, unusedJobs, lackedCores, lackedObjects, ownerFirst, ticketsDiffer, ticketsGiven, ticketsCounted, versionsBounded, abortsBounded, sound}
-
-pub if-true : (a b : Bool) → (a ⇒ b) ≡ true → a ≡ true → b ≡ true
-if-true true b e p = e
-if-true false b e p = absurd (true≢false (sym p))
-
-pub true-if : (a b : Bool) → (a ≡ true → b ≡ true) → (a ⇒ b) ≡ true
-true-if true b h = h refl
-true-if false b h = refl
-
-pub both : (a b : Bool) → (a && b) ≡ true → (a ≡ true) × (b ≡ true)
-both a b e = (both-left a b e, both-right a b e)
+use Rattle.machine.specs.Sound.{inRange, setsWithin, ownerListed, idleClear, zombieEmpty, atMostEight, unusedJobs, lackedCores, lackedObjects, ownerFirst, ticketsDiffer, ticketsGiven, ticketsCounted, versionsBounded, abortsBounded, sound}
 
 -- cores and cards that are in range
 pub in-range : (cores objects : ℕ) → sizesInRange cores objects ≡ true → (0 < cores) × (cores ≤ 16) × (0 < objects) × (objects ≤ 64)

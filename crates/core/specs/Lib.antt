@@ -1,0 +1,4 @@
+pub mod Parts
+pub mod Life
+pub mod Tidy
+pub mod Formed

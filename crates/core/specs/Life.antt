@@ -1,0 +1,103 @@
+-- What becomes of a core: a job joins or leaves its list; its transaction is begun, told, struck, over, a card joins a set; and which
+-- two transactions conflict. Assumes nothing.
+use mathlib.Core.Bool.{Bool, true, false, cond, _&&_, _||_}
+use mathlib.Core.List.{List, [], _∷_, _++_}
+use Prim.Native.Nat.{ℕ, suc, _+_, _-_}
+use lib.Dec.{ltb}
+use lib.ListN.{set, take, drop}
+use Rattle.objset.specs.Objset.{added, meeting}
+use Rattle.core.specs.declared.Core.{Core}
+use Rattle.core.specs.declared.Job.{Job}
+use Rattle.core.specs.Parts.{noJob, idle, dataSet, running}
+
+-- ---- the list of jobs
+
+-- a core with another list of jobs, and its transaction as it was
+abbrev pub withList : Core → List Job → ℕ → Core
+withList k jobs n =
+    record {
+      jobs = jobs;
+      count = n;
+      active = k .active;
+      owner = k .owner;
+      ticket = k .ticket;
+      aborts = k .aborts;
+      zombie = k .zombie;
+      reads = k .reads;
+      writes = k .writes;
+    }
+
+-- the job joins the end of the list
+abbrev pub withJob : Core → Job → Core
+withJob k j = withList k (set (k .jobs) (k .count) j) (k .count + 1)
+
+-- the list without the job at place p, an unused place at its end
+abbrev pub without : List Job → ℕ → List Job
+without jobs p = take p jobs ++ drop (suc p) jobs ++ (noJob ∷ [])
+
+-- the job at place p leaves the list, the others keep their order
+abbrev pub withoutJob : Core → ℕ → Core
+withoutJob k p = withList k (without (k .jobs) p) (k .count - 1)
+
+-- ---- a transaction
+
+-- the running job's transaction begins with the ticket t: its sets are empty, its setbacks 0
+abbrev pub withTransaction : Core → ℕ → Core
+withTransaction k t =
+    record { jobs = k .jobs; count = k .count; active = true; owner = running k; ticket = t; aborts = 0; zombie = false; reads = 0; writes = 0 }
+
+-- a core whose transaction has this ticket, these setbacks, this mark and these sets; its job stays
+abbrev pub attempting : Core → ℕ → ℕ → Bool → ℕ → ℕ → Core
+attempting k ticket aborts zombie rs ws =
+    record {
+      jobs = k .jobs;
+      count = k .count;
+      active = k .active;
+      owner = k .owner;
+      ticket = ticket;
+      aborts = aborts;
+      zombie = zombie;
+      reads = rs;
+      writes = ws;
+    }
+
+-- the mark is taken away, and nothing more
+abbrev pub unmarked : Core → Core
+unmarked k = attempting k (k .ticket) (k .aborts) false (k .reads) (k .writes)
+
+abbrev pub withSets : Core → ℕ → ℕ → Core
+withSets k rs ws = attempting k (k .ticket) (k .aborts) (k .zombie) rs ws
+
+-- card d joins the read set
+abbrev pub withRead : Core → ℕ → Core
+withRead k d = withSets k (added (k .reads) d) (k .writes)
+
+-- card d joins the write set
+abbrev pub withWrite : Core → ℕ → Core
+withWrite k d = withSets k (k .reads) (added (k .writes) d)
+
+-- set back: the sets are emptied, the setbacks rise by one, it is marked; it keeps its ticket
+abbrev pub aborted : Core → Core
+aborted k = attempting k (k .ticket) (k .aborts + 1) true 0 0
+
+-- core k has a transaction whose data set meets the write set ws
+abbrev pub isStruck : ℕ → Core → Bool
+isStruck ws k = k .active && meeting ws (dataSet k)
+
+-- such a transaction is set back
+unfoldable pub struck : ℕ → Core → Core
+struck ws k = cond (isStruck ws k) (aborted k) k
+
+-- the transaction of a core ends; its jobs stay
+abbrev pub over : Core → Core
+over k = idle (k .jobs) (k .count)
+
+-- ---- two transactions
+
+-- two transactions conflict if the write set of either meets the data set of the other
+abbrev pub conflict : Core → Core → Bool
+conflict a b = meeting (a .writes) (dataSet b) || meeting (b .writes) (dataSet a)
+
+-- core b holds a conflicting transaction with a smaller ticket than core a's
+abbrev pub holdsBack : Core → Core → Bool
+holdsBack b a = b .active && ltb (b .ticket) (a .ticket) && conflict a b

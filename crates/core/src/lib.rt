@@ -1,0 +1,57 @@
+// One core of the machine: its list of jobs and its transaction (document 01). What one core keeps by itself, and what a call makes of
+// it; the whole machine is the crate above. Each promise is an equation with a definition of specs/. Assumes nothing.
+ghost use mathlib.Core.Path.{_≡_};
+ghost use Rattle.core.specs.Parts.{blankCore};
+
+pub mod inside;
+mod soundness;
+
+pub use soundness::is_tidy;
+
+// A job in a core's list.
+pub struct Job {
+    pub number: u16,
+    pub deadline: u32,
+}
+
+// One core: its list of jobs and its transaction.
+pub struct Core {
+    // the list, in order of release; the places from count on are unused
+    pub jobs: [Job; 8],
+    pub count: u8,
+    // a transaction is in progress
+    pub active: bool,
+    // the place of the transaction's job in the list (document 01: owner's place)
+    pub owner: u8,
+    pub ticket: u32,
+    // how often the transaction was aborted (document 01: setbacks)
+    pub aborts: u8,
+    // aborted by another's commit and not told yet (document 01: marked)
+    pub zombie: bool,
+    // the read set and the write set
+    pub reads: u64,
+    pub writes: u64,
+}
+
+impl Core {
+    // No job and no transaction, all fields 0.
+    pub fn blank() -> Core
+        ensures { λ r. ⌜ r ≡ blankCore ⌝ }
+    {
+        let none = Job {
+            number: 0,
+            deadline: 0,
+        };
+        Core {
+            jobs: [none; 8],
+            count: 0,
+            active: false,
+            owner: 0,
+            ticket: 0,
+            aborts: 0,
+            zombie: false,
+            reads: objset::empty(),
+            writes: objset::empty(),
+        }
+    }
+}

@@ -1,0 +1,122 @@
+// The soundness test of one core, whatever its fields hold: the standing rules (document 01) that a core keeps by itself. Each promise
+// is an equation with the rules' own definitions in specs/Tidy.antt. Assumes nothing.
+use crate::Core;
+ghost use mathlib.Core.Path.{_≡_};
+ghost use mathlib.Core.Bool.{_&&_};
+ghost use Prim.Native.Nat.{_<_};
+ghost use Rattle.core.specs.Tidy.{emptySets, clear, setsWithin, ownerListed, idleClear, zombieEmpty, unusedJobs, firstListed, tidy};
+
+// Whether the core's sets lie within the objects.
+fn sets_within(k: Core, objects: u8) -> bool
+    ensures { λ r. ⌜ r ≡ setsWithin objects k ⌝ }
+{
+    let n = objects as usize;
+    if !objset::within(k.reads, n) {
+        return false;
+    }
+    objset::within(k.writes, n)
+}
+
+// Whether the core's sets are empty.
+fn sets_empty(k: Core) -> bool
+    ensures { λ r. ⌜ r ≡ emptySets k ⌝ }
+{
+    if k.reads != 0 {
+        return false;
+    }
+    k.writes == 0
+}
+
+// Whether the core has empty sets, no mark, and owner's place, ticket and aborts (document 01: setbacks) 0.
+fn is_clear(k: Core) -> bool
+    ensures { λ r. ⌜ r ≡ clear k ⌝ }
+{
+    if !sets_empty(k) {
+        return false;
+    }
+    if k.zombie {
+        return false;
+    }
+    if k.owner != 0 {
+        return false;
+    }
+    if k.ticket != 0 {
+        return false;
+    }
+    k.aborts == 0
+}
+
+// Whether the transaction's job is one of the list's, a core without a transaction is clear, and a marked one has empty sets.
+fn transaction_tidy(k: Core) -> bool
+    ensures { λ r. ⌜ r ≡ (ownerListed k && idleClear k && zombieEmpty k) ⌝ }
+{
+    if k.active {
+        if k.count <= k.owner {
+            return false;
+        }
+        if k.zombie {
+            return sets_empty(k);
+        }
+        return true;
+    }
+    is_clear(k)
+}
+
+// Whether the unused job places hold zeros.
+fn unused_zero(k: Core) -> bool
+    ensures { λ r. ⌜ r ≡ unusedJobs k ⌝ }
+{
+    let jobs = k.jobs;
+    let mut p = k.count as usize;
+    while p < 8 {
+        let j = jobs[p];
+        if j.number != 0 {
+            return false;
+        }
+        if j.deadline != 0 {
+            return false;
+        }
+        p += 1;
+    }
+    true
+}
+
+// Whether every job listed before the owner's has a greater deadline.
+fn owner_first(k: Core) -> bool
+    requires { ⌜ k .owner < 8 ⌝ }
+    ensures { λ r. ⌜ r ≡ firstListed k ⌝ }
+{
+    let jobs = k.jobs;
+    let owner = k.owner as usize;
+    let deadline = jobs[owner].deadline;
+    let mut p: usize = 0;
+    while p < owner {
+        if jobs[p].deadline <= deadline {
+            return false;
+        }
+        p += 1;
+    }
+    true
+}
+
+// Whether the core keeps the rules that a core keeps by itself, on a machine of that many objects (document 01: cards).
+pub fn is_tidy(k: Core, objects: u8) -> bool
+    ensures { λ r. ⌜ r ≡ tidy objects k ⌝ }
+{
+    if !sets_within(k, objects) {
+        return false;
+    }
+    if !transaction_tidy(k) {
+        return false;
+    }
+    if k.count > 8 {
+        return false;
+    }
+    if !unused_zero(k) {
+        return false;
+    }
+    if k.active {
+        return owner_first(k);
+    }
+    true
+}
