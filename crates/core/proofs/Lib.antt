@@ -5,3 +5,4 @@ pub mod LifeLaws
 mod TidyLaws
 pub mod Tidy
 pub mod Kept
+pub mod CallLaws

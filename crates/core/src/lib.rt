@@ -1,8 +1,9 @@
-// One core of the machine: its list of jobs and its transaction (document 01). What one core keeps by itself, and what a call makes of
-// it; the whole machine is the crate above. Each promise is an equation with a definition of specs/. Assumes nothing.
+// One core of the machine: its list of jobs and its transaction (document 01); what one core keeps by itself, and what a call gives
+// there. The whole machine is the crate above. Each promise is an equation with a definition of specs/. Assumes nothing.
 ghost use mathlib.Core.Path.{_≡_};
 ghost use Rattle.core.specs.Parts.{blankCore};
 
+pub mod calls;
 pub mod inside;
 mod soundness;
 
@@ -31,6 +32,28 @@ pub struct Core {
     // the read set and the write set
     pub reads: u64,
     pub writes: u64,
+}
+
+// What a call answers.
+pub enum Answer {
+    Ready,
+    Running,
+    Queued,
+    // the ticket
+    Begun(u32),
+    // the value and the committed version
+    Value(u32, u32),
+    Written,
+    // the core of a conflicting transaction with a smaller ticket
+    Waits(u8),
+    // the count of aborts (document 01: setbacks)
+    Committed(u8),
+    SetBack,
+    Ended,
+    // the job's number
+    Finished(u16),
+    // the number of the refusal
+    Refused(u8),
 }
 
 impl Core {

@@ -1,0 +1,146 @@
+-- What a call gives on its core (document 01), once the core and the card are found: refusals first, in the order of their numbers.
+-- Assumes nothing.
+use mathlib.Core.Path.{_≡_}
+use mathlib.Core.Bool.{Bool, true, cond, not}
+use mathlib.Core.List.{List, [], _∷_}
+use Prim.Native.Nat.{ℕ, zero, suc, _+_, _≤_, _<_}
+use lib.Dec.{eqb, leb, ltb}
+use Rattle.objset.specs.Objset.{has}
+use Rattle.core.specs.declared.Core.{Core}
+use Rattle.core.specs.declared.Job.{Job}
+use Rattle.core.specs.declared.Answer.{Answer}
+use Rattle.core.specs.declared.Answer.the-variants.{Running, Queued, Begun, Value, Written, Waits, Committed, SetBack, Ended, Finished, Refused}
+use Rattle.core.specs.declared.calls.Act.{Act}
+use Rattle.core.specs.declared.calls.Act.the-variants.{Release, Begin, Read, Write, GiveUp, Finish}
+use Rattle.core.specs.declared.calls.Seen.{Seen}
+use Rattle.core.specs.declared.calls.Acted.{Acted}
+use Rattle.core.specs.declared.calls.Settled.{Settled}
+use Rattle.core.specs.Parts.{jobAt, running}
+use Rattle.core.specs.Life.{withJob, withoutJob, withTransaction, unmarked, withRead, withWrite, over}
+
+-- the first condition that holds, by its number; 0 where none does
+unfoldable pub first : List (Bool × ℕ) → ℕ
+first [] = 0
+first (x ∷ xs) = cond (x .0) (x .1) (first xs)
+
+-- the card that a call names; 0 where it names none
+abbrev pub objectOf : Act → ℕ
+objectOf (Release number deadline) = 0
+objectOf Begin = 0
+objectOf (Read d) = d
+objectOf (Write d v) = d
+objectOf GiveUp = 0
+objectOf Finish = 0
+
+-- this core and this answer; all else as it was seen
+abbrev pub left : Core → Seen → Answer → Acted
+left k s a = record { core = k; tickets = s .tickets; «give_ups» = s .«give_ups»; pending = s .pending; answer = a }
+
+-- the number of a refusal takes the place of what an accepted call gives; nothing changes
+unfoldable pub unless : ℕ → Core → Seen → Acted → Acted
+unless zero k s accepted = accepted
+unless (suc n) k s accepted = left k s (Refused (suc n))
+
+-- ---- the conditions of refusals
+
+-- the core has 8 jobs
+abbrev pub fullList : Core → Bool
+fullList k = leb 8 (k .count)
+
+-- it has no job
+abbrev pub jobless : Core → Bool
+jobless k = eqb (k .count) 0
+
+-- 4,294,967,295 tickets given
+abbrev pub ticketsSpent : ℕ → Bool
+ticketsSpent tickets = leb 4294967295 tickets
+
+-- ---- release: the job joins the end of the list
+
+abbrev pub released : Core → Seen → Job → Acted
+released k s j = left (withJob k j) s (cond (eqb (running (withJob k j)) (k .count)) Running Queued)
+
+unfoldable pub releaseOn : Core → Seen → ℕ → ℕ → Acted
+releaseOn k s number deadline = unless (first ((fullList k, 6) ∷ [])) k s (released k s (record { number = number; deadline = deadline }))
+
+-- ---- begin: the running job's transaction gets the next ticket
+
+abbrev pub begun : Core → Seen → Acted
+begun k s =
+    record {
+      core = withTransaction k (s .tickets);
+      tickets = s .tickets + 1;
+      «give_ups» = s .«give_ups»;
+      pending = s .pending;
+      answer = Begun (s .tickets);
+    }
+
+unfoldable pub beginOn : Core → Seen → Acted
+beginOn k s = unless (first ((jobless k, 7) ∷ (k .active, 8) ∷ (ticketsSpent (s .tickets), 10) ∷ [])) k s (begun k s)
+
+-- ---- a marked transaction's next read, write or commit answers set back and takes away the mark
+
+abbrev pub told : Core → Seen → Acted
+told k s = left (unmarked k) s SetBack
+
+-- ---- read: the pending value if this attempt wrote the card, else the committed value; the card joins the read set
+
+abbrev pub valued : Core → Seen → ℕ → Acted
+valued k s d = left (withRead k d) s (Value (cond (has (k .writes) d) (s .pending) (s .committed)) (s .version))
+
+unfoldable pub readOn : Core → Seen → ℕ → Acted
+readOn k s d = unless (first ((not (k .active), 9) ∷ [])) k s (cond (k .zombie) (told k s) (valued k s d))
+
+-- ---- write: stores the pending word; the card joins the write set
+
+abbrev pub written : Core → Seen → ℕ → ℕ → Acted
+written k s d v =
+    record { core = withWrite k d; tickets = s .tickets; «give_ups» = s .«give_ups»; pending = v; answer = Written }
+
+unfoldable pub writeOn : Core → Seen → ℕ → ℕ → Acted
+writeOn k s d v = unless (first ((not (k .active), 9) ∷ [])) k s (cond (k .zombie) (told k s) (written k s d v))
+
+-- ---- give up: the transaction ends without effect
+
+abbrev pub ended : Core → Seen → Acted
+ended k s = record { core = over k; tickets = s .tickets; «give_ups» = s .«give_ups» + 1; pending = s .pending; answer = Ended }
+
+unfoldable pub giveUpOn : Core → Seen → Acted
+giveUpOn k s = unless (first ((not (k .active), 9) ∷ [])) k s (ended k s)
+
+-- ---- finish: the running job leaves the list; its number is the answer
+
+abbrev pub finished : Core → Seen → Acted
+finished k s = left (withoutJob k (running k)) s (Finished (jobAt k (running k) .number))
+
+unfoldable pub finishOn : Core → Seen → Acted
+finishOn k s = unless (first ((jobless k, 7) ∷ (k .active, 8) ∷ [])) k s (finished k s)
+
+-- ---- one rule for the six
+
+unfoldable pub actOn : Act → Core → Seen → Acted
+actOn (Release number deadline) k s = releaseOn k s number deadline
+actOn Begin k s = beginOn k s
+actOn (Read d) k s = readOn k s d
+actOn (Write d v) k s = writeOn k s d v
+actOn GiveUp k s = giveUpOn k s
+actOn Finish k s = finishOn k s
+
+-- what a sound record gives of its core: a list of at most 8 jobs, and a give-up more while a transaction is in progress
+pub record Fits (k : Core) (s : Seen) : Type 0 where
+  pub few-jobs : k .count ≤ 8
+  pub one-more : k .active ≡ true → s .«give_ups» < 4294967295
+
+-- ---- commit, on its own core; e is the core that holds it back, 16 or more where none does
+
+-- it does not go through: the write set that it commits is empty
+abbrev pub stays : Core → Answer → Settled
+stays k a = record { core = k; writes = 0; commits = 0; answer = a }
+
+-- it goes through: the transaction is over and its write set is committed
+abbrev pub passes : Core → Settled
+passes k = record { core = over k; writes = k .writes; commits = 1; answer = Committed (k .aborts) }
+
+unfoldable pub commitOn : Core → ℕ → Settled
+commitOn k e =
+    cond (k .active) (cond (k .zombie) (stays (unmarked k) SetBack) (cond (ltb e 16) (stays k (Waits e)) (passes k))) (stays k (Refused 9))

@@ -1,0 +1,240 @@
+// What a call gives on its core, once the core and the card are found: the six calls that concern one core, and the part of commit that
+// does. Each promise is an equation with a definition of specs/Calls.antt. Assumes nothing.
+use crate::Answer;
+use crate::Core;
+use crate::inside::jobs::join;
+use crate::inside::jobs::leave;
+use crate::inside::jobs::running_of;
+use crate::inside::transaction;
+ghost use mathlib.Core.Path.{_≡_};
+ghost use mathlib.Core.Bool.{true};
+ghost use Prim.Native.Nat.{_≤_, _<_};
+ghost use Rattle.core.specs.Calls.{objectOf, left, releaseOn, beginOn, readOn, writeOn, giveUpOn, finishOn, actOn, commitOn, Fits};
+
+// A call that concerns one core, without that core.
+pub enum Act {
+    // job number, deadline
+    Release(u16, u32),
+    Begin,
+    // object (document 01: card)
+    Read(u32),
+    // object, value
+    Write(u32, u32),
+    GiveUp,
+    Finish,
+}
+
+// What such a call sees beside its core: the counts of tickets and give-ups, and of its object the committed value, the core's pending
+// value and the version.
+pub struct Seen {
+    pub tickets: u32,
+    pub give_ups: u32,
+    pub committed: u32,
+    pub pending: u32,
+    pub version: u32,
+}
+
+// What it leaves: the core, the counts and the pending value; and its answer.
+pub struct Acted {
+    pub core: Core,
+    pub tickets: u32,
+    pub give_ups: u32,
+    pub pending: u32,
+    pub answer: Answer,
+}
+
+// What a commit leaves on its own core: the core, the write set that it commits (empty, where it does not go through), how many
+// commits that is; and its answer.
+pub struct Settled {
+    pub core: Core,
+    pub writes: u64,
+    pub commits: u32,
+    pub answer: Answer,
+}
+
+// The object that a call names; 0 where it names none.
+pub fn object_of(a: Act) -> u32
+    ensures { λ r. ⌜ r ≡ objectOf a ⌝ }
+{
+    match a {
+        Act::Read(object) => object,
+        Act::Write(object, _) => object,
+        Act::Release(_, _) => 0,
+        Act::Begin => 0,
+        Act::GiveUp => 0,
+        Act::Finish => 0,
+    }
+}
+
+// This core and this answer; all else as it was seen.
+pub fn leaving(k: Core, s: Seen, answer: Answer) -> Acted
+    ensures { λ r. ⌜ r ≡ left k s answer ⌝ }
+{
+    Acted {
+        core: k,
+        tickets: s.tickets,
+        give_ups: s.give_ups,
+        pending: s.pending,
+        answer,
+    }
+}
+
+// The job joins the end of the list: 6 it has 8 jobs.
+fn release(k: Core, s: Seen, number: u16, deadline: u32) -> Acted
+    ensures { λ r. ⌜ r ≡ releaseOn k s number deadline ⌝ }
+{
+    if 8 <= k.count {
+        return leaving(k, s, Answer::Refused(6));
+    }
+    let joined = join(k, number, deadline);
+    if running_of(joined) == k.count {
+        return leaving(joined, s, Answer::Running);
+    }
+    leaving(joined, s, Answer::Queued)
+}
+
+// The running job's transaction gets the next ticket: 7 no job, 8 a transaction is in progress, 10 every ticket is given.
+fn begin(k: Core, s: Seen) -> Acted
+    requires { ⌜ k .count ≤ 8 ⌝ }
+    ensures { λ r. ⌜ r ≡ beginOn k s ⌝ }
+{
+    if k.count == 0 {
+        return leaving(k, s, Answer::Refused(7));
+    }
+    if k.active {
+        return leaving(k, s, Answer::Refused(8));
+    }
+    if 4294967295 <= s.tickets {
+        return leaving(k, s, Answer::Refused(10));
+    }
+    Acted {
+        core: transaction::begin(k, s.tickets),
+        tickets: s.tickets + 1,
+        give_ups: s.give_ups,
+        pending: s.pending,
+        answer: Answer::Begun(s.tickets),
+    }
+}
+
+// The pending value if this attempt wrote the object, else the committed value, with the version; the object joins the read set. A
+// marked transaction is told that it was set back instead. 9 none in progress.
+fn read(k: Core, s: Seen, object: usize) -> Acted
+    ensures { λ r. ⌜ r ≡ readOn k s object ⌝ }
+{
+    if !k.active {
+        return leaving(k, s, Answer::Refused(9));
+    }
+    if k.zombie {
+        return leaving(transaction::tell(k), s, Answer::SetBack);
+    }
+    let looked = transaction::add_read(k, object);
+    if objset::contains(k.writes, object) {
+        return leaving(looked, s, Answer::Value(s.pending, s.version));
+    }
+    leaving(looked, s, Answer::Value(s.committed, s.version))
+}
+
+// The pending value becomes this one; the object joins the write set. A marked transaction is told that it was set back instead. 9
+// none in progress.
+fn write(k: Core, s: Seen, object: usize, value: u32) -> Acted
+    ensures { λ r. ⌜ r ≡ writeOn k s object value ⌝ }
+{
+    if !k.active {
+        return leaving(k, s, Answer::Refused(9));
+    }
+    if k.zombie {
+        return leaving(transaction::tell(k), s, Answer::SetBack);
+    }
+    Acted {
+        core: transaction::add_write(k, object),
+        tickets: s.tickets,
+        give_ups: s.give_ups,
+        pending: value,
+        answer: Answer::Written,
+    }
+}
+
+// The transaction ends without effect: 9 none in progress.
+fn give_up(k: Core, s: Seen) -> Acted
+    requires { ⌜ (k .active ≡ true → s .«give_ups» < 4294967295) ⌝ }
+    ensures { λ r. ⌜ r ≡ giveUpOn k s ⌝ }
+{
+    if !k.active {
+        return leaving(k, s, Answer::Refused(9));
+    }
+    Acted {
+        core: transaction::end(k),
+        tickets: s.tickets,
+        give_ups: s.give_ups + 1,
+        pending: s.pending,
+        answer: Answer::Ended,
+    }
+}
+
+// The running job leaves the list; its number is the answer. 7 no job, 8 a transaction is in progress.
+fn finish(k: Core, s: Seen) -> Acted
+    requires { ⌜ k .count ≤ 8 ⌝ }
+    ensures { λ r. ⌜ r ≡ finishOn k s ⌝ }
+{
+    if k.count == 0 {
+        return leaving(k, s, Answer::Refused(7));
+    }
+    if k.active {
+        return leaving(k, s, Answer::Refused(8));
+    }
+    let p = running_of(k) as usize;
+    let number = k.jobs[p].number;
+    leaving(leave(k, p), s, Answer::Finished(number))
+}
+
+// What the call gives on the core k.
+pub fn act_on(a: Act, k: Core, s: Seen) -> Acted
+    requires { ⌜ Fits k s ⌝ }
+    ensures { λ r. ⌜ r ≡ actOn a k s ⌝ }
+{
+    match a {
+        Act::Release(number, deadline) => release(k, s, number, deadline),
+        Act::Begin => begin(k, s),
+        Act::Read(object) => read(k, s, object as usize),
+        Act::Write(object, value) => write(k, s, object as usize, value),
+        Act::GiveUp => give_up(k, s),
+        Act::Finish => finish(k, s),
+    }
+}
+
+// What a commit gives on its own core: 9 none in progress; a marked transaction is told that it was set back; one that is held back, by
+// core `ahead`, waits; any other is over and its write set is committed. From 16 on `ahead` is no core.
+pub fn settle(k: Core, ahead: u8) -> Settled
+    ensures { λ r. ⌜ r ≡ commitOn k ahead ⌝ }
+{
+    if !k.active {
+        return Settled {
+            core: k,
+            writes: objset::empty(),
+            commits: 0,
+            answer: Answer::Refused(9),
+        };
+    }
+    if k.zombie {
+        return Settled {
+            core: transaction::tell(k),
+            writes: objset::empty(),
+            commits: 0,
+            answer: Answer::SetBack,
+        };
+    }
+    if ahead < 16 {
+        return Settled {
+            core: k,
+            writes: objset::empty(),
+            commits: 0,
+            answer: Answer::Waits(ahead),
+        };
+    }
+    Settled {
+        core: transaction::end(k),
+        writes: k.writes,
+        commits: 1,
+        answer: Answer::Committed(k.aborts),
+    }
+}
