@@ -11,7 +11,7 @@ use Rattle.machine.specs.Answers.{named}
 use Rattle.machine.specs.Sound.{sound}
 use Rattle.machine.specs.declared.Machine.{Machine}
 use Rattle.machine.specs.declared.Outcome.{Outcome}
-use Rattle.machine.specs.declared.Answer.the-variants.{Ready, Refused}
+use Rattle.core.specs.declared.Answer.the-variants.{Ready, Refused}
 use Rattle.bench_calls.specs.Lists.{numberOf, called, tested, door}
 
 -- what a call left is this, but for the core that waits names

@@ -9,7 +9,7 @@ use machine::inside::jobs;
 use machine::inside::transaction;
 ghost use mathlib.Core.Path.{_≡_};
 ghost use mathlib.Core.Bool.{cond};
-ghost use Rattle.machine.specs.declared.Answer.the-variants.{Ready, Refused};
+ghost use Rattle.core.specs.declared.Answer.the-variants.{Ready, Refused};
 ghost use Rattle.machine.specs.Rule.{lent, setup as setupRule};
 ghost use Rattle.machine.specs.Inside.{Good};
 ghost use Rattle.machine.specs.Sound.{sound};

@@ -2,7 +2,7 @@
 use mathlib.Core.Path.{_≡_, refl, sym, ap, _∙_}
 use mathlib.Core.Bool.{Bool, true, false, cond}
 use mathlib.Core.List.{List, [], _∷_}
-use Prim.Native.Nat.{ℕ, suc}
+use Prim.Native.Nat.{ℕ, zero, suc}
 use borrow.Author.Tests.{ne-eqb}
 use Rattle.core.specs.declared.Core.{Core}
 use Rattle.core.specs.declared.Answer.the-variants.{Finished, Refused}
@@ -10,7 +10,7 @@ use Rattle.core.specs.declared.calls.Seen.{Seen}
 use Rattle.core.specs.declared.calls.Acted.{Acted}
 use Rattle.core.specs.Parts.{jobAt, running}
 use Rattle.core.specs.Life.{withoutJob}
-use Rattle.core.specs.Calls.{first, left, unless, finishOn}
+use Rattle.core.specs.Calls.{first, left, unless, finishOn, stays, commitOn}
 
 -- ---- the first condition that holds
 
@@ -28,13 +28,13 @@ none-holds = refl
 
 -- ---- refused and accepted
 
-pub refused : (k : Core) (s : Seen) (r n : ℕ) (accepted : Acted) → r ≡ suc n → left k s (Refused (suc n)) ≡ unless r k s accepted
+pub refused : (k : Core) (s : Seen) (r n : ℕ) (done : Acted) → r ≡ suc n → left k s (Refused (suc n)) ≡ unless r k s done
 unfolding unless
-refused k s r n accepted e = sym (ap (λ (x : ℕ). unless x k s accepted) e)
+refused k s r n done e = sym (ap (λ (x : ℕ). unless x k s done) e)
 
-pub taken : (k : Core) (s : Seen) (r : ℕ) (accepted : Acted) → r ≡ 0 → accepted ≡ unless r k s accepted
+pub accepted : (k : Core) (s : Seen) (r : ℕ) (done : Acted) → r ≡ 0 → done ≡ unless r k s done
 unfolding unless
-taken k s r accepted e = sym (ap (λ (x : ℕ). unless x k s accepted) e)
+accepted k s r done e = sym (ap (λ (x : ℕ). unless x k s done) e)
 
 -- the running job is at place p
 pub finish-leaves : (k : Core) (s : Seen) (p : ℕ) → (k .count ≡ 0 → ⊥) → k .active ≡ false → p ≡ running k
@@ -42,4 +42,15 @@ pub finish-leaves : (k : Core) (s : Seen) (p : ℕ) → (k .count ≡ 0 → ⊥)
 unfolding finishOn
 finish-leaves k s p some off e =
     ap (λ (q : ℕ). left (withoutJob k q) s (Finished (jobAt k q .number))) e
-    ∙ taken k s _ _ (skips _ _ _ (ne-eqb _ 0 some) (skips _ _ _ off none-holds))
+    ∙ accepted k s _ _ (skips _ _ _ (ne-eqb _ 0 some) (skips _ _ _ off none-holds))
+
+-- a refusal that is known before, by a number that is not 0
+pub known-before : (k : Core) (s : Seen) (n : ℕ) (done : Acted) → (n ≡ 0 → ⊥) → left k s (Refused n) ≡ unless n k s done
+unfolding unless
+known-before k s zero done h = absurd (h refl)
+known-before k s (suc n) done h = refl
+
+pub known-settled : (n : ℕ) (k : Core) (e : ℕ) → (n ≡ 0 → ⊥) → stays k (Refused n) ≡ commitOn n k e
+unfolding commitOn
+known-settled zero k e h = absurd (h refl)
+known-settled (suc n) k e h = refl

@@ -116,15 +116,18 @@ finished k s = left (withoutJob k (running k)) s (Finished (jobAt k (running k) 
 unfoldable pub finishOn : Core → Seen → Acted
 finishOn k s = unless (first ((jobless k, 7) ∷ (k .active, 8) ∷ [])) k s (finished k s)
 
--- ---- one rule for the six
+-- ---- one rule for the six; n is the number of a refusal that is known before, 0 where there is none
 
-unfoldable pub actOn : Act → Core → Seen → Acted
-actOn (Release number deadline) k s = releaseOn k s number deadline
-actOn Begin k s = beginOn k s
-actOn (Read d) k s = readOn k s d
-actOn (Write d v) k s = writeOn k s d v
-actOn GiveUp k s = giveUpOn k s
-actOn Finish k s = finishOn k s
+unfoldable pub taken : Act → Core → Seen → Acted
+taken (Release number deadline) k s = releaseOn k s number deadline
+taken Begin k s = beginOn k s
+taken (Read d) k s = readOn k s d
+taken (Write d v) k s = writeOn k s d v
+taken GiveUp k s = giveUpOn k s
+taken Finish k s = finishOn k s
+
+unfoldable pub actOn : ℕ → Act → Core → Seen → Acted
+actOn n a k s = unless n k s (taken a k s)
 
 -- what a sound record gives of its core: a list of at most 8 jobs, and a give-up more while a transaction is in progress
 pub record Fits (k : Core) (s : Seen) : Type 0 where
@@ -141,6 +144,8 @@ stays k a = record { core = k; writes = 0; commits = 0; answer = a }
 abbrev pub passes : Core → Settled
 passes k = record { core = over k; writes = k .writes; commits = 1; answer = Committed (k .aborts) }
 
-unfoldable pub commitOn : Core → ℕ → Settled
-commitOn k e =
+-- 9 where none is in progress
+unfoldable pub commitOn : ℕ → Core → ℕ → Settled
+commitOn zero k e =
     cond (k .active) (cond (k .zombie) (stays (unmarked k) SetBack) (cond (ltb e 16) (stays k (Waits e)) (passes k))) (stays k (Refused 9))
+commitOn (suc n) k e = stays k (Refused (suc n))

@@ -9,7 +9,7 @@ use crate::inside::transaction;
 ghost use mathlib.Core.Path.{_≡_};
 ghost use mathlib.Core.Bool.{true};
 ghost use Prim.Native.Nat.{_≤_, _<_};
-ghost use Rattle.core.specs.Calls.{objectOf, left, releaseOn, beginOn, readOn, writeOn, giveUpOn, finishOn, actOn, commitOn, Fits};
+ghost use Rattle.core.specs.Calls.{objectOf, left, releaseOn, beginOn, readOn, writeOn, giveUpOn, finishOn, actOn, stays, commitOn, Fits};
 
 // A call that concerns one core, without that core.
 pub enum Act {
@@ -67,7 +67,7 @@ pub fn object_of(a: Act) -> u32
 }
 
 // This core and this answer; all else as it was seen.
-pub fn leaving(k: Core, s: Seen, answer: Answer) -> Acted
+fn leaving(k: Core, s: Seen, answer: Answer) -> Acted
     ensures { λ r. ⌜ r ≡ left k s answer ⌝ }
 {
     Acted {
@@ -187,11 +187,14 @@ fn finish(k: Core, s: Seen) -> Acted
     leaving(leave(k, p), s, Answer::Finished(number))
 }
 
-// What the call gives on the core k.
-pub fn act_on(a: Act, k: Core, s: Seen) -> Acted
+// What the call gives on the core k. A refusal that is known before, of that number, comes first; 0 is none.
+pub fn act_on(refusal: u8, a: Act, k: Core, s: Seen) -> Acted
     requires { ⌜ Fits k s ⌝ }
-    ensures { λ r. ⌜ r ≡ actOn a k s ⌝ }
+    ensures { λ r. ⌜ r ≡ actOn refusal a k s ⌝ }
 {
+    if refusal != 0 {
+        return leaving(k, s, Answer::Refused(refusal));
+    }
     match a {
         Act::Release(number, deadline) => release(k, s, number, deadline),
         Act::Begin => begin(k, s),
@@ -202,34 +205,35 @@ pub fn act_on(a: Act, k: Core, s: Seen) -> Acted
     }
 }
 
-// What a commit gives on its own core: 9 none in progress; a marked transaction is told that it was set back; one that is held back, by
-// core `ahead`, waits; any other is over and its write set is committed. From 16 on `ahead` is no core.
-pub fn settle(k: Core, ahead: u8) -> Settled
-    ensures { λ r. ⌜ r ≡ commitOn k ahead ⌝ }
+// A commit that does not go through: it commits the empty write set.
+fn staying(k: Core, answer: Answer) -> Settled
+    ensures { λ r. ⌜ r ≡ stays k answer ⌝ }
 {
+    Settled {
+        core: k,
+        writes: objset::empty(),
+        commits: 0,
+        answer,
+    }
+}
+
+// What a commit gives on its own core: a refusal that is known before, of that number; 9 none in progress; a marked transaction is told
+// that it was set back; one that is held back, by core `ahead`, waits; any other is over and its write set is committed. From 16 on
+// `ahead` is no core.
+pub fn settle(refusal: u8, k: Core, ahead: u8) -> Settled
+    ensures { λ r. ⌜ r ≡ commitOn refusal k ahead ⌝ }
+{
+    if refusal != 0 {
+        return staying(k, Answer::Refused(refusal));
+    }
     if !k.active {
-        return Settled {
-            core: k,
-            writes: objset::empty(),
-            commits: 0,
-            answer: Answer::Refused(9),
-        };
+        return staying(k, Answer::Refused(9));
     }
     if k.zombie {
-        return Settled {
-            core: transaction::tell(k),
-            writes: objset::empty(),
-            commits: 0,
-            answer: Answer::SetBack,
-        };
+        return staying(transaction::tell(k), Answer::SetBack);
     }
     if ahead < 16 {
-        return Settled {
-            core: k,
-            writes: objset::empty(),
-            commits: 0,
-            answer: Answer::Waits(ahead),
-        };
+        return staying(k, Answer::Waits(ahead));
     }
     Settled {
         core: transaction::end(k),

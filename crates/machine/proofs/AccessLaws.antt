@@ -7,11 +7,13 @@ use lib.ListN.{getD}
 use borrow.Author.Tests.{lt-ltb, le-ltb, eq-eqb}
 use Rattle.objset.specs.Objset.{has, added}
 use Rattle.machine.specs.declared.Machine.{Machine}
-use Rattle.machine.specs.declared.Answer.the-variants.{Refused, Value}
+use Rattle.core.specs.declared.Answer.the-variants.{Refused, Value}
 use Rattle.machine.specs.Record.{coreAt, putCore}
-use Rattle.machine.specs.Rule.{World, Result, withMachine, unlessLent, wrongTables, noSuchObject, accessRefusal, slot, withSets, told, valueRead, valued, read, written, write}
+use Rattle.machine.specs.Rule.{World, Result, withMachine, unlessLent, wrongTables, noSuchObject, accessRefusal, slot, told, valueRead, valued, read, written, write}
+use Rattle.core.specs.Life.{withSets}
 use Rattle.machine.specs.Inside.{Fine}
-use Rattle.machine.proofs.CallLaws.{skips, hits, none-holds, is-sound, a-core, no-core}
+use Rattle.core.proofs.CallLaws.{skips, hits, none-holds}
+use Rattle.machine.proofs.CallLaws.{is-sound, a-core, no-core}
 
 -- ---- a call that is lent the tables is refused where a condition holds, and accepted where none does
 

@@ -6,10 +6,11 @@ use Prim.Native.Nat.{ℕ, suc, _≤_, _<_}
 use borrow.Author.Tests.{lt-ltb, le-ltb, le-leb, lt-leb, eq-eqb, ne-eqb}
 use Rattle.machine.specs.declared.Machine.{Machine}
 use Rattle.machine.specs.declared.Outcome.{Outcome}
-use Rattle.machine.specs.declared.Answer.the-variants.{Refused}
+use Rattle.core.specs.declared.Answer.the-variants.{Refused}
 use Rattle.machine.specs.Record.{coreAt}
 use Rattle.machine.specs.Sound.{sound}
-use Rattle.machine.specs.Rule.{first, unless, unsound, noSuchCore, begun, begin, ended, giveUp}
+use Rattle.core.specs.Calls.{first}
+use Rattle.machine.specs.Rule.{unless, unsound, noSuchCore, begun, begin, ended, giveUp}
 
 -- ---- the first condition that holds
 

@@ -7,11 +7,13 @@ use native.Mathlib.Omega.{arith}
 use lib.Dec.{eqb}
 use Rattle.objset.specs.Objset.{some}
 use Rattle.machine.specs.declared.Machine.{Machine}
-use Rattle.machine.specs.declared.Answer.{Answer}
-use Rattle.machine.specs.declared.Answer.the-variants.{Running, Queued, Waits}
+use Rattle.core.specs.declared.Answer.{Answer}
+use Rattle.core.specs.declared.Answer.the-variants.{Running, Queued, Waits}
 use Rattle.machine.specs.Answers.{named}
-use Rattle.machine.specs.Record.{coreAt, running}
-use Rattle.machine.specs.Rule.{World, Result, Call, Release, Begin, Read, Write, Commit, GiveUp, Finish, coreOf, rule, unlessLent, withJob, told, waiting, through, released, finished, valued, contender, blocked, leastOf, firstAhead, commitRefusal, commit}
+use Rattle.machine.specs.Record.{coreAt}
+use Rattle.core.specs.Parts.{running}
+use Rattle.machine.specs.Rule.{World, Result, Call, Release, Begin, Read, Write, Commit, GiveUp, Finish, coreOf, rule, unlessLent, told, waiting, through, released, finished, valued, contender, blocked, leastOf, firstAhead, commitRefusal, commit}
+use Rattle.core.specs.Life.{withJob}
 use Rattle.machine.specs.Follows.{Follows}
 use Rattle.machine.proofs.Case.{Case, is-refused, is-released, is-begun, is-told, is-valued, is-written, is-waiting, is-through, is-ended, is-finished, release-case, begin-case, read-case, write-case, commit-case, give-up-case, finish-case}
 

@@ -10,15 +10,18 @@ use borrow.Author.Tests.{ltb-true, ltb-false, leb-false, eqb-true, eqb-false, no
 use Rattle.objset.specs.Objset.{meeting}
 use Rattle.objset.proofs.Laws.{both-left, both-right, one-some}
 use Rattle.machine.specs.declared.Machine.{Machine}
-use Rattle.machine.specs.declared.Core.{Core}
-use Rattle.machine.specs.declared.Answer.{Answer}
-use Rattle.machine.specs.declared.Answer.the-variants.{Ready, Begun, Written, Waits, SetBack, Ended, Refused}
+use Rattle.core.specs.declared.Core.{Core}
+use Rattle.core.specs.declared.Answer.{Answer}
+use Rattle.core.specs.declared.Answer.the-variants.{Ready, Begun, Written, Waits, SetBack, Ended, Refused}
 use Rattle.machine.specs.declared.Outcome.{Outcome}
-use Rattle.machine.specs.Record.{coreAt, dataSet, sizesInRange, blank}
+use Rattle.machine.specs.Record.{coreAt, sizesInRange, blank}
+use Rattle.core.specs.Parts.{dataSet}
 use Rattle.machine.specs.Sound.{sound}
 use Rattle.machine.specs.Answers.{kind, named}
 use Rattle.machine.specs.Follows.{Follows}
-use Rattle.machine.specs.Rule.{World, Result, lent, withMachine, first, unless, unlessLent, outOfRange, misfit, newWorld, setup, unsound, wrongTables, noSuchCore, noSuchObject, fullList, jobless, inProgress, ticketsSpent, released, release, begun, begin, told, accessRefusal, valued, read, written, write, conflict, contender, blocked, isStruck, through, waiting, commitRefusal, commit, ended, giveUp, finished, finish, rule, Call, Release, Begin, Read, Write, Commit, GiveUp, Finish, coreOf}
+use Rattle.machine.specs.Rule.{World, Result, lent, withMachine, unless, unlessLent, outOfRange, misfit, newWorld, setup, unsound, wrongTables, noSuchCore, noSuchObject, fullList, jobless, inProgress, ticketsSpent, released, release, begun, begin, told, accessRefusal, valued, read, written, write, contender, blocked, through, waiting, commitRefusal, commit, ended, giveUp, finished, finish, rule, Call, Release, Begin, Read, Write, Commit, GiveUp, Finish, coreOf}
+use Rattle.core.specs.Calls.{first}
+use Rattle.core.specs.Life.{conflict, isStruck}
 use Rattle.machine.proofs.Refusals.{passed}
 
 -- the record is sound and the core is one of the machine's

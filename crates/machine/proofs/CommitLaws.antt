@@ -12,14 +12,17 @@ use borrow.Author.Tests.{ltb-true, ltb-false, eq-eqb, ne-eqb}
 use Rattle.objset.specs.Objset.{has, some, meeting}
 use Rattle.objset.proofs.Laws.{one-some}
 use Rattle.machine.specs.declared.Machine.{Machine}
-use Rattle.machine.specs.declared.Core.{Core}
-use Rattle.machine.specs.declared.Answer.the-variants.{Refused, Waits, Committed}
-use Rattle.machine.specs.Record.{noCore, coreAt, dataSet}
+use Rattle.core.specs.declared.Core.{Core}
+use Rattle.core.specs.declared.Answer.the-variants.{Refused, Waits, Committed}
+use Rattle.core.specs.Parts.{noCore, dataSet}
+use Rattle.machine.specs.Record.{coreAt}
 use Rattle.machine.specs.Sound.{sound}
-use Rattle.machine.specs.Rule.{World, Result, unlessLent, wrongTables, told, conflict, contender, blocked, aborted, struck, over, cleared, changed, through, waiting, commitRefusal, commit}
+use Rattle.machine.specs.Rule.{World, Result, unlessLent, wrongTables, told, contender, blocked, cleared, changed, through, waiting, commitRefusal, commit}
+use Rattle.core.specs.Life.{conflict, aborted, struck, over}
 use Rattle.machine.proofs.Entries.{cleared-at, cleared-long, changed-at, changed-long}
 use Rattle.machine.proofs.Facts.{stands, core-place, one-open}
-use Rattle.machine.proofs.CallLaws.{skips, hits, none-holds, is-sound, a-core, no-core}
+use Rattle.core.proofs.CallLaws.{skips, hits, none-holds}
+use Rattle.machine.proofs.CallLaws.{is-sound, a-core, no-core}
 use Rattle.machine.proofs.AccessLaws.{refused-lent, accepted-lent}
 use Rattle.machine.proofs.Front.{Stands, stands-next, stands-stored, stands-kept, stands-all}
 

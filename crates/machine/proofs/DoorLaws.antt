@@ -8,14 +8,15 @@ use lib.Dec.{eqb}
 use lib.ListN.{length, replicate}
 use borrow.Author.Tests.{eqb-true}
 use Rattle.objset.proofs.Laws.{both-left, both-right}
-use Rattle.machine.specs.declared.Answer.the-variants.{Refused, Ready, Waits}
+use Rattle.core.specs.declared.Answer.the-variants.{Refused, Ready, Waits}
 use Rattle.machine.specs.Record.{blank, machineOf, sizesInRange}
 use Rattle.machine.specs.Sound.{sound}
 use Rattle.machine.specs.Inside.{Fine}
 use Rattle.machine.specs.Rule.{World, lent, setup, rule, Call}
 use Rattle.machine.specs.Refusals.{at, refusals}
 use Rattle.machine.proofs.Refusals.{refused-with}
-use Rattle.machine.proofs.CallLaws.{skips, hits, none-holds, is-sound}
+use Rattle.core.proofs.CallLaws.{skips, hits, none-holds}
+use Rattle.machine.proofs.CallLaws.{is-sound}
 use Rattle.machine.proofs.AccessLaws.{refused-lent, accepted-lent}
 
 -- ---- 2: an unsound record

@@ -10,9 +10,10 @@ use borrow.Author.Tests.{eqb-true, eqb-false}
 use lib.ListN.{getD, set, length}
 use lib.Seq.{getD-set-same, getD-set-other}
 use Rattle.objset.specs.Objset.{has}
-use Rattle.machine.specs.declared.Core.{Core}
-use Rattle.machine.specs.Record.{noCore}
-use Rattle.machine.specs.Rule.{struck, over, cleared, changed}
+use Rattle.core.specs.declared.Core.{Core}
+use Rattle.core.specs.Parts.{noCore}
+use Rattle.core.specs.Life.{struck, over}
+use Rattle.machine.specs.Rule.{cleared, changed}
 
 -- what holds of core c, and of core e where that is another, holds of core e
 pub here-or-else : (P : ℕ → Type 0) (c e : ℕ) → P c → ((e ≡ c → ⊥) → P e) → P e

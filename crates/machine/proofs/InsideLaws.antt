@@ -6,7 +6,7 @@ use mathlib.Core.List.{List}
 use Prim.Native.Nat.{ℕ}
 use Rattle.machine.specs.declared.Machine.{Machine}
 use Rattle.machine.specs.declared.Outcome.{Outcome}
-use Rattle.machine.specs.declared.Answer.the-variants.{Ready, Waits}
+use Rattle.core.specs.declared.Answer.the-variants.{Ready, Waits}
 use Rattle.machine.specs.Answers.{named}
 use Rattle.machine.specs.Inside.{Fine, Good}
 use Rattle.machine.specs.Rule.{World, Result, lent, left, setup, release, begin, read, write, commit, giveUp, finish, contender}

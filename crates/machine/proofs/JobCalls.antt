@@ -7,17 +7,20 @@ use native.Mathlib.Omega.{arith}
 use lib.Dec.{eqb}
 use borrow.Author.Tests.{le-leb, lt-leb, eq-eqb, ne-eqb}
 use Rattle.machine.specs.declared.Machine.{Machine}
-use Rattle.machine.specs.declared.Core.{Core}
-use Rattle.machine.specs.declared.Job.{Job}
-use Rattle.machine.specs.declared.Answer.the-variants.{Running, Queued, Finished, Refused}
+use Rattle.core.specs.declared.Core.{Core}
+use Rattle.core.specs.declared.Job.{Job}
+use Rattle.core.specs.declared.Answer.the-variants.{Running, Queued, Finished, Refused}
 use Rattle.machine.specs.declared.Outcome.{Outcome}
-use Rattle.machine.specs.Record.{coreAt, jobAt, putCore, least, running}
+use Rattle.machine.specs.Record.{coreAt, putCore}
+use Rattle.core.specs.Parts.{jobAt, least, running}
 use Rattle.machine.specs.Sound.{sound}
-use Rattle.machine.specs.Rule.{withList, withJob, without, released, release, finished, finish}
-use Rattle.machine.proofs.CallLaws.{skips, hits, none-holds, refused, accepted, is-sound, a-core, no-core}
-use Rattle.machine.proofs.JobLaws.{running-least}
+use Rattle.core.specs.Life.{withList, withJob, without}
+use Rattle.machine.specs.Rule.{released, release, finished, finish}
+use Rattle.core.proofs.CallLaws.{skips, hits, none-holds}
+use Rattle.machine.proofs.CallLaws.{refused, accepted, is-sound, a-core, no-core}
+use Rattle.core.proofs.JobLaws.{running-least}
 use Rattle.machine.proofs.Facts.{few-jobs}
-use Rattle.machine.proofs.Sound.Jobs.{least-listed}
+use Rattle.core.proofs.Jobs.{least-listed}
 
 -- ---- release
 

@@ -9,12 +9,15 @@ use lib.Dec.{eqb, ltb}
 use borrow.Author.Tests.{ltb-true, eqb-true, eq-eqb}
 use Rattle.objset.proofs.Laws.{both-left, both-right}
 use Rattle.machine.specs.declared.Machine.{Machine}
-use Rattle.machine.specs.declared.Answer.{Answer}
-use Rattle.machine.specs.declared.Answer.the-variants.{Running, Queued, Refused}
+use Rattle.core.specs.declared.Answer.{Answer}
+use Rattle.core.specs.declared.Answer.the-variants.{Running, Queued, Refused}
 use Rattle.machine.specs.declared.Outcome.{Outcome}
-use Rattle.machine.specs.Record.{coreAt, blank, running}
+use Rattle.machine.specs.Record.{coreAt, blank}
+use Rattle.core.specs.Parts.{running}
 use Rattle.machine.specs.Answers.{number}
-use Rattle.machine.specs.Rule.{commitRefusal, World, Result, lent, unlent, first, unless, unlessLent, setup, withJob, released, release, begun, begin, told, accessRefusal, valued, read, written, write, blocked, through, waiting, commit, ended, giveUp, finished, finish, rule, Call, Release, Begin, Read, Write, Commit, GiveUp, Finish}
+use Rattle.machine.specs.Rule.{commitRefusal, World, Result, lent, unlent, unless, unlessLent, setup, released, release, begun, begin, told, accessRefusal, valued, read, written, write, blocked, through, waiting, commit, ended, giveUp, finished, finish, rule, Call, Release, Begin, Read, Write, Commit, GiveUp, Finish}
+use Rattle.core.specs.Calls.{first}
+use Rattle.core.specs.Life.{withJob}
 use Rattle.machine.specs.Refusals.{refusals, setupRefusals, applies, Smallest}
 
 -- ---- the first condition that holds has the smallest number

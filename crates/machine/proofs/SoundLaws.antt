@@ -10,16 +10,19 @@ use borrow.Author.Tests.{ltb-true, leb-true, lt-ltb, le-ltb, le-leb}
 use Rattle.objset.specs.Objset.{each, below}
 use Rattle.objset.proofs.Laws.{both-left, one-each}
 use Rattle.machine.specs.declared.Machine.{Machine}
-use Rattle.machine.specs.declared.Core.{Core}
-use Rattle.machine.specs.declared.Job.{Job}
-use Rattle.machine.specs.Record.{noJob, coreAt, tally}
-use Rattle.machine.specs.Sound.{_⇒_, emptySets, zeroJob, ahead, sound}
+use Rattle.core.specs.declared.Core.{Core}
+use Rattle.core.specs.declared.Job.{Job}
+use Rattle.core.specs.Parts.{noJob}
+use Rattle.machine.specs.Record.{coreAt, tally}
+use Rattle.core.specs.Tidy.{_⇒_, emptySets, zeroJob}
+use Rattle.machine.specs.Sound.{ahead, sound}
 use Rattle.machine.specs.Sound.{inRange, setsWithin, ownerListed, idleClear, zombieEmpty, atMostEight}
 use Rattle.machine.specs.Sound.{unusedJobs, ownerFirst, lackedCores, versionsBounded, lackedObjects}
 use Rattle.machine.specs.Sound.{ticketsDiffer, ticketsGiven, abortsBounded, ticketsCounted}
 use Rattle.machine.proofs.Tally.{tally-bounded}
-use Rattle.machine.proofs.TestLaws.{and-true, same-test, each-fails, each-all, gather}
-use Rattle.machine.proofs.Sound.Passed.{if-true, true-if, both, passed, passed-all}
+use Rattle.core.proofs.TestLaws.{and-true, same-test, each-fails, each-all, gather}
+use Rattle.core.proofs.TestLaws.{if-true, true-if, both}
+use Rattle.machine.proofs.Sound.Passed.{passed, passed-all}
 
 -- ---- all cores
 

@@ -5,7 +5,7 @@ use mathlib.Core.Bool.{Bool}
 use mathlib.Core.List.{List}
 use Prim.Native.Nat.{ℕ}
 use Rattle.machine.specs.declared.Outcome.{Outcome}
-use Rattle.machine.specs.declared.Answer.{Answer}
+use Rattle.core.specs.declared.Answer.{Answer}
 use Rattle.machine.specs.Answers.{number, values}
 use Rattle.machine.specs.Refusals.{Smallest}
 use Rattle.machine.specs.Rule.{Result}

@@ -2,8 +2,8 @@
 use mathlib.Core.Path.{_≡_}
 use mathlib.Core.Bool.{true}
 use Prim.Native.Nat.{ℕ}
-use Rattle.machine.specs.declared.Answer.{Answer}
-use Rattle.machine.specs.declared.Answer.the-variants.{Waits}
+use Rattle.core.specs.declared.Answer.{Answer}
+use Rattle.core.specs.declared.Answer.the-variants.{Waits}
 use Rattle.machine.specs.Answers.{named}
 use Rattle.machine.specs.Rule.{World, contender, rule, Call, coreOf}
 

@@ -6,8 +6,8 @@ use lib.Dec.{ltb, leb}
 use lib.ListN.{getD, set, replicate}
 use Rattle.objset.specs.Objset.{joined}
 use Rattle.machine.specs.declared.Machine.{Machine}
-use Rattle.machine.specs.declared.Core.{Core}
-use Rattle.machine.specs.declared.Job.{Job}
+use Rattle.core.specs.declared.Core.{Core}
+use Rattle.core.specs.declared.Job.{Job}
 
 abbrev pub coreAt : Machine → ℕ → Core
 coreAt m c = getD (m .core) c noCore

@@ -6,7 +6,7 @@ use Prim.Native.Nat.{ℕ, suc, _≤_}
 use lib.Dec.{eqb, leb}
 use lib.ListN.{length}
 use Rattle.objset.specs.Objset.{each}
-use Rattle.machine.specs.Sound.{_⇒_}
+use Rattle.core.specs.Tidy.{_⇒_}
 use Rattle.machine.specs.Words.{Deed, begins, reads, writes, waits, commits, told, gives, other, actsOn, inProgress, born, any, attempt}
 
 -- core b has T or one of those k in progress: the one begun as number t or before, T being number t

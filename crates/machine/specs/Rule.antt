@@ -7,12 +7,13 @@ use lib.Dec.{eqb, leb, ltb}
 use lib.ListN.{getD, set, length, replicate, take, drop}
 use Rattle.objset.specs.Objset.{has, some, added, meeting}
 use Rattle.machine.specs.declared.Machine.{Machine}
-use Rattle.machine.specs.declared.Core.{Core}
-use Rattle.machine.specs.declared.Job.{Job}
-use Rattle.machine.specs.declared.Answer.{Answer}
-use Rattle.machine.specs.declared.Answer.the-variants.{Ready, Running, Queued, Begun, Value, Written, Waits, Committed, SetBack, Ended, Finished, Refused}
+use Rattle.core.specs.declared.Core.{Core}
+use Rattle.core.specs.declared.Job.{Job}
+use Rattle.core.specs.declared.Answer.{Answer}
+use Rattle.core.specs.declared.Answer.the-variants.{Ready, Running, Queued, Begun, Value, Written, Waits, Committed, SetBack, Ended, Finished, Refused}
 use Rattle.machine.specs.declared.Outcome.{Outcome}
-use Rattle.machine.specs.Record.{noJob, coreAt, jobAt, idle, sizesInRange, blank, machineOf, putCore, dataSet, running}
+use Rattle.core.specs.Parts.{noJob, jobAt, idle, dataSet, running}
+use Rattle.machine.specs.Record.{coreAt, sizesInRange, blank, machineOf, putCore}
 use Rattle.machine.specs.Sound.{sound}
 
 -- the record and the two lent tables: the committed values, one per card, and the pending values, cores × cards words

@@ -5,9 +5,10 @@ use lib.Dec.{eqb, leb, ltb}
 use lib.ListN.{getD}
 use Rattle.objset.specs.Objset.{each, below}
 use Rattle.machine.specs.declared.Machine.{Machine}
-use Rattle.machine.specs.declared.Core.{Core}
-use Rattle.machine.specs.declared.Job.{Job}
-use Rattle.machine.specs.Record.{coreAt, jobAt, tally, sizesInRange}
+use Rattle.core.specs.declared.Core.{Core}
+use Rattle.core.specs.declared.Job.{Job}
+use Rattle.machine.specs.Record.{coreAt, tally, sizesInRange}
+use Rattle.core.specs.Parts.{jobAt}
 
 -- a rule that each of the sixteen places for cores keeps
 abbrev pub eachCore : (Core → Bool) → Machine → Bool

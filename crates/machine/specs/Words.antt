@@ -6,8 +6,8 @@ use Prim.Native.Nat.{ℕ, _+_}
 use lib.Dec.{eqb}
 use lib.ListN.{getD}
 use Rattle.objset.specs.Objset.{some}
-use Rattle.machine.specs.declared.Answer.{Answer}
-use Rattle.machine.specs.declared.Answer.the-variants.{Begun, Value, Written, Waits, Committed, SetBack, Ended}
+use Rattle.core.specs.declared.Answer.{Answer}
+use Rattle.core.specs.declared.Answer.the-variants.{Begun, Value, Written, Waits, Committed, SetBack, Ended}
 use Rattle.machine.specs.Answers.{kind, values}
 use Rattle.machine.specs.Record.{tally}
 use Rattle.machine.specs.Rule.{Call, Release, Begin, Read, Write, Commit, GiveUp, Finish}

@@ -16,7 +16,7 @@ ghost use Rattle.machine.specs.Sound.{sound};
 ghost use Rattle.machine.specs.Rule as Rule;
 ghost use Rattle.machine.specs.Rule.{lent, left};
 ghost use Rattle.machine.specs.Record.{blank, sizesInRange};
-ghost use Rattle.machine.specs.declared.Answer.the-variants.{Ready, Refused, Waits};
+ghost use Rattle.core.specs.declared.Answer.the-variants.{Ready, Refused, Waits};
 ghost use Rattle.machine.specs.Claims.{EveryRun};
 ghost use Rattle.machine.specs.Answers.{number, values, named};
 ghost use Rattle.machine.specs.Refusals.{Smallest, refusals, setupRefusals};

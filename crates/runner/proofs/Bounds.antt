@@ -9,8 +9,8 @@ use lib.ListN.{length, length-append}
 use borrow.Author.Tests.{ltb-false, lt-ltb}
 use Rattle.decimal.specs.Spelling.{spelling, spellingIn, glyph}
 use Rattle.machine.specs.Rule.{World}
-use Rattle.machine.specs.declared.Answer.{Answer}
-use Rattle.machine.specs.declared.Answer.the-variants.{Refused}
+use Rattle.core.specs.declared.Answer.{Answer}
+use Rattle.core.specs.declared.Answer.the-variants.{Refused}
 use Rattle.script.specs.declared.Columns.{Columns}
 use Rattle.script.specs.declared.Names.{Names}
 use Rattle.script.specs.declared.Names.the-variants as Names

@@ -13,7 +13,7 @@ use Rattle.machine.specs.Follows.{Follows}
 use Rattle.machine.specs.Sound as Sound
 use Rattle.machine.specs.declared.Machine.{Machine}
 use Rattle.machine.specs.declared.Outcome.{Outcome}
-use Rattle.machine.specs.declared.Answer.the-variants.{Refused}
+use Rattle.core.specs.declared.Answer.the-variants.{Refused}
 use Rattle.machine.specs.Inside.{Good}
 use Rattle.script.specs.declared.Call.{Call}
 use Rattle.script.specs.declared.Call.the-variants as Call

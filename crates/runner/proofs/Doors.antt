@@ -10,10 +10,11 @@ use lib.ListN.{length, drop, getD, drop-of-length-le}
 use lib.Seq.{drop-cons, length-take-le}
 use borrow.Author.Tests.{eqb-true, leb-true, ltb-true, ltb-false, eq-eqb, ne-eqb, lt-ltb, le-ltb, le-leb}
 use Rattle.machine.specs.Record.{blank}
-use Rattle.machine.specs.Sound.{_⇒_, sound}
+use Rattle.core.specs.Tidy.{_⇒_}
+use Rattle.machine.specs.Sound.{sound}
 use Rattle.machine.specs.declared.Machine.{Machine}
 use Rattle.machine.specs.Inside.{Formed, Good}
-use Rattle.machine.proofs.Sound.Passed.{if-true, true-if, both}
+use Rattle.core.proofs.TestLaws.{if-true, true-if, both}
 use Rattle.machine.proofs.Sound.Standing.{Standing, standing}
 use Rattle.script.specs.Pieces.{free}
 use Rattle.runner.specs.declared.Reading.{Reading}

@@ -7,9 +7,12 @@ use Prim.Native.String.{String, [] as no-text, _∷_ as _then_}
 use Rattle.objset.specs.Objset.{has, collect, some, each, none, added, joined, meeting, below}
 use Rattle.decimal.specs.Spelling.{spelling, spellingIn}
 use Rattle.decimal.specs.Reading.{allDigits, noLeadingZero, valueAfter, isNumber, reads}
-use Rattle.machine.specs.Record.{tally, least, running}
+use Rattle.machine.specs.Record.{tally}
+use Rattle.core.specs.Parts.{least, running}
 use Rattle.machine.specs.Sound.{inRange, setsWithin, ownerListed, idleClear, zombieEmpty, atMostEight, unusedJobs, lackedCores, lackedObjects, ownerFirst, ticketsDiffer, ticketsGiven, ticketsCounted, versionsBounded, ahead, abortsBounded, sound}
-use Rattle.machine.specs.Rule.{first, unless, unlessLent, setup, released, release, begun, begin, told, accessRefusal, valueRead, valued, read, written, write, contender, blocked, leastOf, struck, cleared, changed, through, commitRefusal, commit, ended, giveUp, finished, finish, rule}
+use Rattle.core.specs.Calls.{first}
+use Rattle.machine.specs.Rule.{unless, unlessLent, setup, released, release, begun, begin, told, accessRefusal, valueRead, valued, read, written, write, contender, blocked, leastOf, cleared, changed, through, commitRefusal, commit, ended, giveUp, finished, finish, rule}
+use Rattle.core.specs.Life.{struck}
 use Rattle.script.specs.Pieces as Pieces
 use Rattle.script.specs.Pieces.{onto, pieces, lines, same}
 use Rattle.script.specs.Line.{fields, place, ordered, names, verb, numbered, field, number, unused, spelt, meant, spells}

@@ -10,7 +10,7 @@ use Rattle.machine.specs.Rule as Rule
 use Rattle.machine.specs.Rule.{World, Result, rule, firstAhead, coreOf}
 use Rattle.machine.specs.Words.{Event}
 use Rattle.machine.specs.Claims.{Run, fresh, then, Claim}
-use Rattle.machine.specs.declared.Answer.the-variants.{Ready}
+use Rattle.core.specs.declared.Answer.the-variants.{Ready}
 use Rattle.machine.proofs.CanFollow.{rule-follows, first-contends}
 use Rattle.machine.proofs.Run.WholeRun.{whole-run}
 use Rattle.script.specs.declared.Line.{Line}

@@ -10,9 +10,10 @@ use lib.ListN.{length, take, drop, replicate, length-replicate}
 use lib.Seq.{length-take-le, length-front}
 use borrow.Author.Tests.{eq-eqb}
 use Rattle.machine.specs.Record.{blank, machineOf, sizesInRange}
-use Rattle.machine.specs.Rule.{Result, lent, left, setup, first, unlessLent, misfit}
+use Rattle.machine.specs.Rule.{Result, lent, left, setup, unlessLent, misfit}
+use Rattle.core.specs.Calls.{first}
 use Rattle.machine.specs.declared.Outcome.{Outcome}
-use Rattle.machine.specs.declared.Answer.the-variants.{Ready, Refused}
+use Rattle.core.specs.declared.Answer.the-variants.{Ready, Refused}
 use Rattle.machine.specs.Inside.{Good}
 use Rattle.machine.proofs.InsideLaws.{setup-left}
 use Rattle.machine.proofs.Sound.Passed.{in-range}

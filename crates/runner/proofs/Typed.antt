@@ -12,9 +12,11 @@ use denote.Array.{each}
 use denote.Struct.Field.{Field}
 use denote.Struct.Declared.{row}
 use Rattle.machine.specs.declared.Machine.{Machine}
-use Rattle.machine.specs.declared.Core.{Core}
-use Rattle.machine.specs.Record.{noCore, coreAt}
-use Rattle.machine.specs.Inside.{Formed-core, Formed}
+use Rattle.core.specs.declared.Core.{Core}
+use Rattle.core.specs.Parts.{noCore}
+use Rattle.machine.specs.Record.{coreAt}
+use Rattle.core.specs.Formed.{Formed-core}
+use Rattle.machine.specs.Inside.{Formed}
 use Rattle.machine.proofs.Machine as MachineType
 use Rattle.machine.proofs.Core as CoreType
 use Rattle.runner.specs.declared.Reading.{Reading}

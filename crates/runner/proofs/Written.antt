@@ -7,8 +7,8 @@ use lib.ListN.{length, take, drop}
 use lib.Seq.{take-at, drop-at}
 use borrow.Author.Tests.{le-ltb}
 use Rattle.machine.specs.Rule.{World}
-use Rattle.machine.specs.declared.Answer.{Answer}
-use Rattle.machine.specs.declared.Answer.the-variants.{Refused}
+use Rattle.core.specs.declared.Answer.{Answer}
+use Rattle.core.specs.declared.Answer.the-variants.{Refused}
 use Rattle.script.specs.declared.Columns.{Columns}
 use Rattle.listing.specs.Text.{line, fitting, put}
 use Rattle.listing.proofs.Laws.{line-short}

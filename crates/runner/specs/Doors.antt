@@ -3,7 +3,8 @@ use Prim.Native.Nat.{ℕ, _+_, _*_}
 use mathlib.Core.Bool.{Bool, not, cond, _&&_, _||_}
 use lib.Dec.{eqb, leb, ltb}
 use Rattle.machine.specs.Record.{blank}
-use Rattle.machine.specs.Sound.{_⇒_, sound}
+use Rattle.core.specs.Tidy.{_⇒_}
+use Rattle.machine.specs.Sound.{sound}
 use Rattle.script.specs.Pieces.{free}
 use Rattle.runner.specs.declared.Reading.{Reading}
 use Rattle.runner.specs.Kept.{begun}

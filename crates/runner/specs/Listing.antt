@@ -7,7 +7,7 @@ use lib.ListN.{replicate}
 use Rattle.machine.specs.Record.{blank, sizesInRange}
 use Rattle.machine.specs.Rule as Rule
 use Rattle.machine.specs.Rule.{World, Result, lent, rule, firstAhead, coreOf}
-use Rattle.machine.specs.declared.Answer.the-variants.{Refused}
+use Rattle.core.specs.declared.Answer.the-variants.{Refused}
 use Rattle.script.specs.declared.Call.{Call}
 use Rattle.script.specs.declared.Call.the-variants as Call
 use Rattle.script.specs.declared.Line.{Line}

@@ -6,8 +6,8 @@ use mathlib.Core.List.{List, [], _∷_, _++_}
 use Rattle.machine.specs.Rule.{World}
 use Rattle.machine.specs.Words.{Event}
 use Rattle.machine.specs.Claims.{Claim}
-use Rattle.machine.specs.declared.Answer.{Answer}
-use Rattle.machine.specs.declared.Answer.the-variants.{Ready}
+use Rattle.core.specs.declared.Answer.{Answer}
+use Rattle.core.specs.declared.Answer.the-variants.{Ready}
 use Rattle.script.specs.declared.Line.{Line}
 use Rattle.script.specs.declared.Line.the-variants.{Spells, Malformed}
 use Rattle.script.specs.declared.Columns.{Columns}

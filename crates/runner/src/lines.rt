@@ -11,7 +11,7 @@ ghost use mathlib.Core.List.{List, _∷_, _++_};
 ghost use Prim.Native.Nat.{ℕ, _≤_, _<_};
 ghost use lib.ListN.{length, drop};
 ghost use Rattle.machine.specs.Rule.{World};
-ghost use Rattle.machine.specs.declared.Answer.the-variants.{Refused};
+ghost use Rattle.core.specs.declared.Answer.the-variants.{Refused};
 ghost use Rattle.listing.specs.Text.{line as lineOf};
 ghost use Rattle.runner.specs.Kept.{next, lineEnd};
 ghost use Rattle.runner.specs.Ends.{onward, leaves, count, goes, needsMachine};

@@ -10,7 +10,7 @@ use denote.Ref.{now}
 use borrow.Author.Needs.{needs}
 use Rattle.decimal.specs.Spelling.{spelling}
 use Rattle.decimal.proofs.Laws.{spelling-length}
-use Rattle.machine.specs.declared.Answer.{Answer}
+use Rattle.core.specs.declared.Answer.{Answer}
 use Rattle.listing.specs.Text.{spaced, value, said, line}
 use Rattle.listing.proofs.Laws.{line-short, spaced-short, value-short, nothing-put, Stands, stands-none, stands-next, stands-length, stands-put}
 use Rattle.listing.proofs.put_line.Statement.{statement}

@@ -10,13 +10,15 @@ use lib.Dec.{eqb}
 use lib.ListN.{length, getD, set, length-set}
 use lib.Seq.{getD-set-same, getD-set-other}
 use borrow.Author.Tests.{eqb-true, eqb-false}
-use Rattle.machine.specs.declared.Core.{Core}
-use Rattle.machine.specs.declared.Job.{Job}
-use Rattle.machine.specs.declared.Answer.the-variants.{SetBack, Refused}
+use Rattle.core.specs.declared.Core.{Core}
+use Rattle.core.specs.declared.Job.{Job}
+use Rattle.core.specs.declared.Answer.the-variants.{SetBack, Refused}
 use Rattle.machine.specs.Answers.{kind}
-use Rattle.machine.specs.Record.{noCore, coreAt, putCore}
+use Rattle.core.specs.Parts.{noCore}
+use Rattle.machine.specs.Record.{coreAt, putCore}
 use Rattle.machine.specs.Rule as Rule
-use Rattle.machine.specs.Rule.{World, Call, Release, Begin, Read, Write, Commit, GiveUp, Finish, withMachine, withList, withSets}
+use Rattle.machine.specs.Rule.{World, Call, Release, Begin, Read, Write, Commit, GiveUp, Finish, withMachine}
+use Rattle.core.specs.Life.{withList, withSets}
 use Rattle.objset.specs.Objset.{has, added}
 use Rattle.machine.proofs.Case.{Core-ok, Lent-ok, Asks, asks-read, asks-write, asks-commit}
 use Rattle.machine.specs.Words.{Deed, begins, reads, writes, waits, commits, told, gives, other, amounts, inProgress, births, wrote, any, attempt, strikes, setBacks}

@@ -11,8 +11,9 @@ use lib.ListN.{length, getD, List·getD-eq-default}
 use lib.Seq.{ext-getD}
 use borrow.Author.Tests.{eqb-true, ne-eqb, ltb-true, ltb-false, not-true}
 use Rattle.objset.proofs.Laws.{both-left, both-right}
-use Rattle.machine.specs.declared.Core.{Core}
-use Rattle.machine.specs.Record.{noCore, coreAt}
+use Rattle.core.specs.declared.Core.{Core}
+use Rattle.core.specs.Parts.{noCore}
+use Rattle.machine.specs.Record.{coreAt}
 use Rattle.machine.specs.Rule as Rule
 use Rattle.machine.specs.Rule.{World}
 use Rattle.machine.proofs.Case.{Lent-ok, struck-conflicts, not-ahead}

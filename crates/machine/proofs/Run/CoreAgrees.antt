@@ -10,10 +10,10 @@ use borrow.Author.Tests.{eqb-true, eqb-false, eq-eqb, ne-eqb}
 use Rattle.objset.specs.Objset.{has, some, added, meeting}
 use Rattle.objset.proofs.Digits.{has-zero}
 use Rattle.objset.proofs.Laws.{some-one, both-right, has-joined, has-added, added-fits}
-use Rattle.machine.specs.declared.Core.{Core}
-use Rattle.machine.specs.declared.Job.{Job}
-use Rattle.machine.specs.Record.{dataSet}
-use Rattle.machine.specs.Rule.{withList, withSets, unmarked, aborted}
+use Rattle.core.specs.declared.Core.{Core}
+use Rattle.core.specs.declared.Job.{Job}
+use Rattle.core.specs.Parts.{dataSet}
+use Rattle.core.specs.Life.{withList, withSets, unmarked, aborted}
 use Rattle.machine.specs.Words.{Deed, reads, writes, any, touched, wrote, crosses}
 use Rattle.machine.proofs.Run.View.{View, further, Over}
 

@@ -9,9 +9,10 @@ use native.Mathlib.Omega.{arith}
 use lib.Dec.{ltb}
 use lib.ListN.{replicate, getD-replicate, List·getD-eq-default}
 use borrow.Author.Tests.{ltb-true, ltb-false}
-use Rattle.machine.specs.declared.Answer.{Answer}
+use Rattle.core.specs.declared.Answer.{Answer}
 use Rattle.machine.specs.Answers.{kind, values}
-use Rattle.machine.specs.Record.{noCore, coreAt, blankCore, machineOf, sizesInRange}
+use Rattle.core.specs.Parts.{noCore, blankCore}
+use Rattle.machine.specs.Record.{coreAt, machineOf, sizesInRange}
 use Rattle.machine.specs.Rule as Rule
 use Rattle.machine.specs.Rule.{World, Call}
 use Rattle.machine.proofs.Case.{Case, is-refused, is-released, is-begun, is-told, is-valued, is-written, is-waiting, is-through, is-ended, is-finished, contends, case-of}

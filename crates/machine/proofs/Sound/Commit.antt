@@ -11,14 +11,18 @@ use borrow.Author.Tests.{lt-ltb, eqb-true, eqb-false}
 use Rattle.objset.specs.Objset.{has}
 use Rattle.objset.proofs.Laws.{both-left}
 use Rattle.machine.specs.declared.Machine.{Machine}
-use Rattle.machine.specs.declared.Core.{Core}
-use Rattle.machine.specs.Record.{noCore, coreAt}
-use Rattle.machine.specs.Rule.{blocked, isStruck, struck, over, cleared, changed, through}
+use Rattle.core.specs.declared.Core.{Core}
+use Rattle.core.specs.Parts.{noCore}
+use Rattle.machine.specs.Record.{coreAt}
+use Rattle.machine.specs.Rule.{blocked, cleared, changed, through}
+use Rattle.core.specs.Life.{isStruck, struck, over}
 use Rattle.machine.proofs.Case.{struck-conflicts, not-ahead}
 use Rattle.machine.proofs.Sound.Turns.{Turns, turns-left}
-use Rattle.machine.specs.Inside.{Formed-core, Formed}
-use Rattle.machine.proofs.Sound.Standing.{Tidy, Standing}
-use Rattle.machine.proofs.Sound.Cores.{idle-formed, over-tidy, struck-keeps, struck-aborts, struck-tidy, struck-formed}
+use Rattle.core.specs.Formed.{Formed-core}
+use Rattle.machine.specs.Inside.{Formed}
+use Rattle.core.proofs.Tidy.{Tidy}
+use Rattle.machine.proofs.Sound.Standing.{Standing}
+use Rattle.core.proofs.Kept.{idle-formed, over-tidy, struck-keeps, struck-aborts, struck-tidy, struck-formed}
 use Rattle.machine.proofs.Entries.{cleared-at, cleared-long, changed-at, changed-long}
 use Rattle.machine.proofs.Sound.OneCore.{Whole}
 

@@ -9,19 +9,23 @@ use lib.ListN.{getD, length, replicate, length-set, length-replicate, getD-repli
 use Rattle.objset.specs.Objset.{added}
 use Rattle.objset.proofs.Laws.{added-fits}
 use Rattle.machine.specs.declared.Machine.{Machine}
-use Rattle.machine.specs.declared.Core.{Core}
-use Rattle.machine.specs.declared.Job.{Job}
-use Rattle.machine.specs.declared.Answer.{Answer}
-use Rattle.machine.specs.declared.Answer.the-variants.{Ready}
-use Rattle.machine.specs.Record.{noJob, noCore, coreAt, putCore, idle, blankCore, machineOf, running}
-use Rattle.machine.specs.Rule.{World, slot, withJob, unmarked, withSets, without, released, begun, told, valued, written, through, ended, finished, setup, Call}
+use Rattle.core.specs.declared.Core.{Core}
+use Rattle.core.specs.declared.Job.{Job}
+use Rattle.core.specs.declared.Answer.{Answer}
+use Rattle.core.specs.declared.Answer.the-variants.{Ready}
+use Rattle.core.specs.Parts.{noJob, noCore, idle, blankCore, running}
+use Rattle.machine.specs.Record.{coreAt, putCore, machineOf}
+use Rattle.machine.specs.Rule.{World, slot, released, begun, told, valued, written, through, ended, finished, setup, Call}
+use Rattle.core.specs.Life.{withJob, unmarked, withSets, without}
 use Rattle.machine.proofs.Case.{Case, is-refused, is-released, is-begun, is-told, is-valued, is-written, is-waiting, is-through, is-ended, is-finished, setup-case}
 use Rattle.machine.proofs.Tally.{tally-within}
-use Rattle.machine.specs.Inside.{Formed-core, Good}
+use Rattle.core.specs.Formed.{Formed-core}
+use Rattle.machine.specs.Inside.{Good}
 use Rattle.machine.proofs.Sound.Passed.{in-range}
-use Rattle.machine.proofs.Sound.Standing.{Tidy, standing, is-sound}
-use Rattle.machine.proofs.Sound.Jobs.{running-least, least-listed}
-use Rattle.machine.proofs.Sound.Cores.{idle-list, idle-tidy, idle-formed, released-tidy, released-formed, told-tidy, told-formed, sets-tidy, sets-formed, finished-tidy, finished-formed, added-within}
+use Rattle.core.proofs.Tidy.{Tidy}
+use Rattle.machine.proofs.Sound.Standing.{standing, is-sound}
+use Rattle.core.proofs.Jobs.{running-least, least-listed}
+use Rattle.core.proofs.Kept.{idle-list, idle-tidy, idle-formed, released-tidy, released-formed, told-tidy, told-formed, sets-tidy, sets-formed, finished-tidy, finished-formed, added-within}
 use Rattle.machine.proofs.Entries.{changed-long}
 use Rattle.machine.proofs.Sound.OneCore.{Whole, inside, put-whole, begun-whole, ended-whole}
 use Rattle.machine.proofs.Sound.Commit.{through-whole}

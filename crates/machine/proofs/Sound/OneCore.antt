@@ -7,13 +7,18 @@ use native.Mathlib.Nat.{add-assoc}
 use lib.ListN.{getD, set, length, length-set}
 use lib.Seq.{getD-set-same, getD-set-other}
 use Rattle.machine.specs.declared.Machine.{Machine}
-use Rattle.machine.specs.declared.Core.{Core}
-use Rattle.machine.specs.Record.{noCore, coreAt, putCore}
-use Rattle.machine.specs.Rule.{begun, over, ended}
+use Rattle.core.specs.declared.Core.{Core}
+use Rattle.core.specs.Parts.{noCore}
+use Rattle.machine.specs.Record.{coreAt, putCore}
+use Rattle.machine.specs.Rule.{begun, ended}
+use Rattle.core.specs.Life.{over}
 use Rattle.machine.proofs.Sound.Turns.{Turns, turns-same, turns-joined, turns-left}
-use Rattle.machine.specs.Inside.{Formed-core, Formed}
-use Rattle.machine.proofs.Sound.Standing.{Tidy, Standing}
-use Rattle.machine.proofs.Sound.Cores.{withTransaction, idle-formed, begun-tidy, begun-formed, over-tidy}
+use Rattle.core.specs.Formed.{Formed-core}
+use Rattle.machine.specs.Inside.{Formed}
+use Rattle.core.proofs.Tidy.{Tidy}
+use Rattle.machine.proofs.Sound.Standing.{Standing}
+use Rattle.core.specs.Life.{withTransaction}
+use Rattle.core.proofs.Kept.{idle-formed, begun-tidy, begun-formed, over-tidy}
 use Rattle.machine.proofs.Entries.{put-each}
 
 -- a record of the right shape that keeps the standing rules

@@ -8,7 +8,7 @@ use native.Mathlib.Omega.{arith}
 use lib.ListN.{getD, length}
 use borrow.Author.Tests.{eq-eqb}
 use Rattle.machine.specs.declared.Machine.{Machine}
-use Rattle.machine.specs.declared.Answer.{Answer}
+use Rattle.core.specs.declared.Answer.{Answer}
 use Rattle.machine.specs.Record.{coreAt}
 use Rattle.machine.specs.Sound.{sound}
 use Rattle.machine.specs.Answers.{number}

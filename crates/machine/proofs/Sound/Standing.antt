@@ -10,12 +10,15 @@ use borrow.Author.Tests.{ltb-true, ltb-false, leb-true, eqb-true, eqb-false, lt-
 use Rattle.objset.specs.Objset.{has, below}
 use Rattle.objset.proofs.Laws.{each-one, one-each}
 use Rattle.machine.specs.declared.Machine.{Machine}
-use Rattle.machine.specs.declared.Core.{Core}
-use Rattle.machine.specs.declared.Job.{Job}
-use Rattle.machine.specs.Record.{noJob, coreAt, jobAt}
-use Rattle.machine.specs.Sound.{_⇒_, inRange, setsWithin, ownerListed, emptySets, idleClear, zombieEmpty, atMostEight, zeroJob, unusedJobs, lackedCores, lackedObjects, ownerFirst, ticketsDiffer, ticketsGiven, ticketsCounted, versionsBounded, ahead, abortsBounded, sound}
+use Rattle.core.specs.declared.Core.{Core}
+use Rattle.core.specs.declared.Job.{Job}
+use Rattle.core.specs.Parts.{noJob, jobAt}
+use Rattle.machine.specs.Record.{coreAt}
+use Rattle.core.specs.Tidy.{_⇒_, emptySets, zeroJob}
+use Rattle.machine.specs.Sound.{inRange, setsWithin, ownerListed, idleClear, zombieEmpty, atMostEight, unusedJobs, lackedCores, lackedObjects, ownerFirst, ticketsDiffer, ticketsGiven, ticketsCounted, versionsBounded, ahead, abortsBounded, sound}
 use Rattle.machine.proofs.Sound.Turns.{Turns}
-use Rattle.machine.proofs.Sound.Passed.{if-true, true-if, both, in-range, Passed, passed, passed-all}
+use Rattle.core.proofs.TestLaws.{if-true, true-if, both}
+use Rattle.machine.proofs.Sound.Passed.{in-range, Passed, passed, passed-all}
 
 -- the rules that tie the transactions in progress together
 abbrev pub TurnsOf : Machine → Type 0

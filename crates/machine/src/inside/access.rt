@@ -6,8 +6,9 @@ ghost use mathlib.Core.Path.{_≡_};
 ghost use Prim.Native.Nat.{_+_, _*_, _≤_, _<_};
 ghost use Rattle.machine.specs.Record.{coreAt, putCore};
 ghost use Rattle.machine.specs.Inside.{Fine};
-ghost use Rattle.machine.specs.Rule.{lent, left, unmarked, read as readRule, write as writeRule};
-ghost use Rattle.machine.specs.declared.Answer.the-variants.{SetBack};
+ghost use Rattle.machine.specs.Rule.{lent, left, read as readRule, write as writeRule};
+ghost use Rattle.core.specs.Life.{unmarked};
+ghost use Rattle.core.specs.declared.Answer.the-variants.{SetBack};
 
 // A marked transaction on core c is told that it was set back: the mark is taken away, and nothing more.
 pub(crate) fn tell(mut m: Machine, c: usize) -> Outcome

@@ -11,11 +11,13 @@ ghost use Prim.Native.Nat.{ℕ, _+_, _*_, _≤_, _<_};
 ghost use lib.Dec.{ltb};
 ghost use lib.ListN.{length, getD};
 ghost use Rattle.objset.specs.Objset.{has};
-ghost use Rattle.machine.specs.Record.{noCore, coreAt};
+ghost use Rattle.core.specs.Parts.{noCore};
+ghost use Rattle.machine.specs.Record.{coreAt};
 ghost use Rattle.machine.specs.Sound.{sound};
 ghost use Rattle.machine.specs.Answers.{named};
 ghost use Rattle.machine.specs.Inside.{Fine};
-ghost use Rattle.machine.specs.Rule.{lent, left, conflict, contender, blocked, isStruck, aborted, cleared, changed, through};
+ghost use Rattle.machine.specs.Rule.{lent, left, contender, blocked, cleared, changed, through};
+ghost use Rattle.core.specs.Life.{conflict, isStruck, aborted};
 ghost use Rattle.machine.specs.Rule.{commit as commitRule};
 
 // Whether two transactions conflict: the write set of either meets the data set of the other.

@@ -7,9 +7,10 @@ use crate::Outcome;
 ghost use mathlib.Core.Path.{_≡_};
 ghost use mathlib.Core.Bool.{true};
 ghost use Prim.Native.Nat.{_≤_, _<_};
-ghost use Rattle.machine.specs.Record.{least, running};
+ghost use Rattle.core.specs.Parts.{least, running};
 ghost use Rattle.machine.specs.Sound.{sound};
-ghost use Rattle.machine.specs.Rule.{without, release, finish};
+ghost use Rattle.core.specs.Life.{without};
+ghost use Rattle.machine.specs.Rule.{release, finish};
 
 // The place of the job of least deadline among the first n, the first released among equals.
 pub(crate) fn least_of(jobs: [Job; 8], n: u8) -> u8

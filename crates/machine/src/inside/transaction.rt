@@ -7,7 +7,8 @@ use crate::inside::jobs::running_of;
 ghost use mathlib.Core.Path.{_≡_};
 ghost use mathlib.Core.Bool.{true};
 ghost use Rattle.machine.specs.Sound.{sound};
-ghost use Rattle.machine.specs.Rule.{over, begin as beginRule, giveUp};
+ghost use Rattle.core.specs.Life.{over};
+ghost use Rattle.machine.specs.Rule.{begin as beginRule, giveUp};
 
 // A core with the jobs of k and no transaction.
 pub(crate) fn without_transaction(k: Core) -> Core

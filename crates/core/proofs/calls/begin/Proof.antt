@@ -3,7 +3,7 @@ use mathlib.Core.Path.{_≡_, refl, sym, ap, _∙_}
 use native.Mathlib.Omega.{arith}
 use borrow.Author.Tests.{le-leb, lt-leb, eq-eqb, ne-eqb}
 use Rattle.core.specs.Calls.{beginOn}
-use Rattle.core.proofs.CallLaws.{skips, hits, none-holds, refused, taken}
+use Rattle.core.proofs.CallLaws.{skips, hits, none-holds, refused, accepted}
 use borrow.Author.Needs.{needs}
 use Rattle.core.proofs.calls.begin.Statement.{statement}
 use Rattle.core.proofs.calls.begin.Tie as tie
@@ -43,7 +43,7 @@ returns-4 : tie.Need-returns-4
 unfolding beginOn
 returns-4 c =
     rw (c .before .begin .ensures)
-    (taken _ _ _ _ (skips _ _ _ (ne-eqb _ 0 (c .before .before .before .before .before .if1 .left)) (skips _ _ _ (c .before .before .before .before .if2 .left) (skips _ _ _ (lt-leb _ _ (c .before .before .if3 .left)) none-holds))))
+    (accepted _ _ _ _ (skips _ _ _ (ne-eqb _ 0 (c .before .before .before .before .before .if1 .left)) (skips _ _ _ (c .before .before .before .before .if2 .left) (skips _ _ _ (lt-leb _ _ (c .before .before .if3 .left)) none-holds))))
 
 pub begin-spec : {M : Type 1} → statement M
 begin-spec =

@@ -3,7 +3,7 @@ use mathlib.Core.Path.{_≡_, refl, sym, ap, _∙_}
 use native.Mathlib.Omega.{arith}
 use Rattle.core.specs.Calls.{giveUpOn}
 use Rattle.core.proofs.TestLaws.{holds}
-use Rattle.core.proofs.CallLaws.{skips, hits, none-holds, refused, taken}
+use Rattle.core.proofs.CallLaws.{skips, hits, none-holds, refused, accepted}
 use borrow.Author.Needs.{needs}
 use Rattle.core.proofs.calls.give_up.Statement.{statement}
 use Rattle.core.proofs.calls.give_up.Tie as tie
@@ -26,7 +26,7 @@ add-t6 c =
 returns-2 : tie.Need-returns-2
 unfolding giveUpOn
 returns-2 c =
-    rw (c .before .end .ensures) (taken _ _ _ _ (skips _ _ _ (c .before .before .if1 .left) none-holds))
+    rw (c .before .end .ensures) (accepted _ _ _ _ (skips _ _ _ (c .before .before .if1 .left) none-holds))
 
 pub give-up-spec : {M : Type 1} → statement M
 give-up-spec = tie.close (tie.spec leaving-requires returns end-requires add-t6 returns-2)

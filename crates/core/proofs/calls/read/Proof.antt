@@ -2,7 +2,7 @@
 use mathlib.Core.Path.{_≡_, refl, sym, ap, _∙_}
 use native.Mathlib.Omega.{arith}
 use Rattle.core.specs.Calls.{readOn}
-use Rattle.core.proofs.CallLaws.{skips, hits, none-holds, refused, taken}
+use Rattle.core.proofs.CallLaws.{skips, hits, none-holds, refused, accepted}
 use borrow.Author.Needs.{needs}
 use Rattle.core.proofs.calls.read.Statement.{statement}
 use Rattle.core.proofs.calls.read.Tie as tie
@@ -24,7 +24,7 @@ leaving-requires-2 c κs = search needs
 returns-2 : tie.Need-returns-2
 unfolding readOn
 returns-2 c =
-    rw (c .leaving2 .ensures, c .before .tell .ensures, c .before .before .if2 .taken) (taken _ _ _ _ (skips _ _ _ (c .before .before .before .if1 .left) none-holds))
+    rw (c .leaving2 .ensures, c .before .tell .ensures, c .before .before .if2 .taken) (accepted _ _ _ _ (skips _ _ _ (c .before .before .before .if1 .left) none-holds))
 
 add-read-requires : tie.Need-add-read-requires
 add-read-requires c κs = search needs
@@ -39,7 +39,7 @@ returns-3 : tie.Need-returns-3
 unfolding readOn
 returns-3 c =
     rw (c .leaving3 .ensures, c .before .before .before .add-read .ensures, c .before .before .before .before .if2 .left, sym (c .before .before .contains .ensures) ∙ c .before .if3 .taken)
-    (taken _ _ _ _ (skips _ _ _ (c .before .before .before .before .before .if1 .left) none-holds))
+    (accepted _ _ _ _ (skips _ _ _ (c .before .before .before .before .before .if1 .left) none-holds))
 
 leaving-requires-4 : tie.Need-leaving-requires-4
 leaving-requires-4 c κs = search needs
@@ -48,7 +48,7 @@ returns-4 : tie.Need-returns-4
 unfolding readOn
 returns-4 c =
     rw (c .leaving4 .ensures, c .before .before .before .add-read .ensures, c .before .before .before .before .if2 .left, sym (c .before .before .contains .ensures) ∙ c .before .if3 .left)
-    (taken _ _ _ _ (skips _ _ _ (c .before .before .before .before .before .if1 .left) none-holds))
+    (accepted _ _ _ _ (skips _ _ _ (c .before .before .before .before .before .if1 .left) none-holds))
 
 pub read-spec : {M : Type 1} → statement M
 read-spec =

@@ -3,7 +3,7 @@ use mathlib.Core.Path.{_≡_, refl, sym, ap, _∙_}
 use native.Mathlib.Omega.{arith}
 use borrow.Author.Tests.{le-leb, lt-leb, eq-eqb, ne-eqb}
 use Rattle.core.specs.Calls.{releaseOn}
-use Rattle.core.proofs.CallLaws.{skips, hits, none-holds, refused, taken}
+use Rattle.core.proofs.CallLaws.{skips, hits, none-holds, refused, accepted}
 use borrow.Author.Needs.{needs}
 use Rattle.core.proofs.calls.release.Statement.{statement}
 use Rattle.core.proofs.calls.release.Tie as tie
@@ -31,7 +31,7 @@ unfolding releaseOn
 returns-2 c =
     let room = c .before .before .before .before .before in
     let joined = c .before .before .before .before .join .ensures in
-    rw (c .leaving2 .ensures, joined) (rw (eq-eqb _ _ (sym (rw joined at (c .before .before .before .running-of .ensures)) ∙ c .before .if2 .taken)) (taken _ _ _ _ (skips _ _ _ (lt-leb 8 _ (room .if1 .left)) none-holds)))
+    rw (c .leaving2 .ensures, joined) (rw (eq-eqb _ _ (sym (rw joined at (c .before .before .before .running-of .ensures)) ∙ c .before .if2 .taken)) (accepted _ _ _ _ (skips _ _ _ (lt-leb 8 _ (room .if1 .left)) none-holds)))
 
 leaving-requires-3 : tie.Need-leaving-requires-3
 leaving-requires-3 c κs = search needs
@@ -41,7 +41,7 @@ unfolding releaseOn
 returns-3 c =
     let room = c .before .before .before .before .before in
     let joined = c .before .before .before .before .join .ensures in
-    rw (c .leaving3 .ensures, joined) (rw (ne-eqb _ _ (λ e. c .before .if2 .left (rw joined at (c .before .before .before .running-of .ensures) ∙ e))) (taken _ _ _ _ (skips _ _ _ (lt-leb 8 _ (room .if1 .left)) none-holds)))
+    rw (c .leaving3 .ensures, joined) (rw (ne-eqb _ _ (λ e. c .before .if2 .left (rw joined at (c .before .before .before .running-of .ensures) ∙ e))) (accepted _ _ _ _ (skips _ _ _ (lt-leb 8 _ (room .if1 .left)) none-holds)))
 
 pub release-spec : {M : Type 1} → statement M
 release-spec =

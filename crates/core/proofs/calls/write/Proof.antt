@@ -2,7 +2,7 @@
 use mathlib.Core.Path.{_≡_, refl, sym, ap, _∙_}
 use native.Mathlib.Omega.{arith}
 use Rattle.core.specs.Calls.{writeOn}
-use Rattle.core.proofs.CallLaws.{skips, hits, none-holds, refused, taken}
+use Rattle.core.proofs.CallLaws.{skips, hits, none-holds, refused, accepted}
 use borrow.Author.Needs.{needs}
 use Rattle.core.proofs.calls.write.Statement.{statement}
 use Rattle.core.proofs.calls.write.Tie as tie
@@ -24,7 +24,7 @@ leaving-requires-2 c κs = search needs
 returns-2 : tie.Need-returns-2
 unfolding writeOn
 returns-2 c =
-    rw (c .leaving2 .ensures, c .before .tell .ensures, c .before .before .if2 .taken) (taken _ _ _ _ (skips _ _ _ (c .before .before .before .if1 .left) none-holds))
+    rw (c .leaving2 .ensures, c .before .tell .ensures, c .before .before .if2 .taken) (accepted _ _ _ _ (skips _ _ _ (c .before .before .before .if1 .left) none-holds))
 
 add-write-requires : tie.Need-add-write-requires
 add-write-requires c κs = search needs
@@ -32,7 +32,7 @@ add-write-requires c κs = search needs
 returns-3 : tie.Need-returns-3
 unfolding writeOn
 returns-3 c =
-    rw (c .add-write .ensures, c .before .if2 .left) (taken _ _ _ _ (skips _ _ _ (c .before .before .if1 .left) none-holds))
+    rw (c .add-write .ensures, c .before .if2 .left) (accepted _ _ _ _ (skips _ _ _ (c .before .before .if1 .left) none-holds))
 
 pub write-spec : {M : Type 1} → statement M
 write-spec =

@@ -6,7 +6,7 @@ use borrow.Author.Needs.{needs}
 use Rattle.machine.specs.Rule.{World, Result, commit, rule, Commit}
 use Rattle.machine.specs.Refusals.{refusals}
 use Rattle.machine.proofs.Refusals.{smallest-given}
-use Rattle.machine.proofs.TestLaws.{holds, breaks}
+use Rattle.core.proofs.TestLaws.{holds, breaks}
 use Rattle.machine.proofs.DoorLaws.{unsound-refused, misfit-refused, fine-of, refused-not-waits}
 use Rattle.machine.proofs.Told.{Paper, lent-told}
 use Rattle.machine.proofs.Machine.commit.Statement.{statement}

@@ -3,7 +3,7 @@ use mathlib.Core.Path.{refl}
 use borrow.Author.Needs.{needs}
 use Rattle.machine.specs.Rule.{rule, Read}
 use Rattle.machine.proofs.Refusals.{smallest-given}
-use Rattle.machine.proofs.TestLaws.{holds, breaks}
+use Rattle.core.proofs.TestLaws.{holds, breaks}
 use Rattle.machine.proofs.DoorLaws.{unsound-refused, misfit-refused, fine-of}
 use Rattle.machine.proofs.Told.{lent-told}
 use Rattle.machine.proofs.Machine.read.Statement.{statement}

@@ -5,7 +5,7 @@ use Prim.Native.Nat.{ℕ}
 use native.Mathlib.Omega.{arith}
 use borrow.Author.Needs.{needs}
 use Rattle.machine.specs.declared.Outcome.{Outcome}
-use Rattle.machine.specs.declared.Answer.the-variants.{Ready}
+use Rattle.core.specs.declared.Answer.the-variants.{Ready}
 use Rattle.machine.specs.Refusals.{setupRefusals}
 use Rattle.machine.specs.Rule.{lent, left, setup}
 use Rattle.machine.specs.Claims.{EveryRun}

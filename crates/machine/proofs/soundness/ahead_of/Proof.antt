@@ -6,7 +6,7 @@ use mathlib.Core.Logic.{⊎-elim}
 use borrow.Author.Needs.{needs}
 use borrow.Author.Tests.{lt-ltb, le-ltb}
 use Rattle.machine.specs.Record.{tally}
-use Rattle.machine.proofs.TestLaws.{tally-none, tally-counts, tally-skips}
+use Rattle.machine.proofs.Tally.{tally-none, tally-counts, tally-skips}
 use Rattle.machine.proofs.SoundLaws.{aheadAt, ahead-all}
 use Rattle.machine.proofs.soundness.ahead_of.Statement.{statement}
 use Rattle.machine.proofs.soundness.ahead_of.Tie as tie

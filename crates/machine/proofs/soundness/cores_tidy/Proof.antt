@@ -5,7 +5,7 @@ use Prim.Native.Nat.{_-_, _≤_}
 use native.Mathlib.Omega.{arith}
 use borrow.Author.Needs.{needs}
 use Rattle.objset.specs.Objset.{each}
-use Rattle.machine.proofs.TestLaws.{holds, breaks, each-none, each-more}
+use Rattle.core.proofs.TestLaws.{holds, breaks, each-none, each-more}
 use Rattle.machine.proofs.SoundLaws.{tidyAt, tidy-fails, tidy-all}
 use Rattle.machine.proofs.soundness.cores_tidy.Statement.{statement}
 use Rattle.machine.proofs.soundness.cores_tidy.Tie as tie

@@ -1,6 +1,6 @@
 -- `machine::soundness::is_sound` meets its contract. Assumes nothing.
 use borrow.Author.Needs.{needs}
-use Rattle.machine.proofs.TestLaws.{holds, breaks}
+use Rattle.core.proofs.TestLaws.{holds, breaks}
 use Rattle.machine.proofs.SoundLaws.{out-of-range, untidy, unbounded, by-turns}
 use Rattle.machine.proofs.soundness.is_sound.Statement.{statement}
 use Rattle.machine.proofs.soundness.is_sound.Tie as tie

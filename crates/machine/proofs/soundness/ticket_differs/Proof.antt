@@ -9,7 +9,7 @@ use borrow.Author.Count.{below-none, below-more}
 use borrow.Author.Needs.{needs}
 use borrow.Author.Tests.{eq-eqb, ne-eqb}
 use Rattle.objset.proofs.Laws.{one-each}
-use Rattle.machine.proofs.TestLaws.{each-fails}
+use Rattle.core.proofs.TestLaws.{each-fails}
 use Rattle.machine.proofs.SoundLaws.{differsFrom}
 use Rattle.machine.proofs.soundness.ticket_differs.Statement.{statement}
 use Rattle.machine.proofs.soundness.ticket_differs.Tie as tie

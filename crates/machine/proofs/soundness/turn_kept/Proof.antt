@@ -1,7 +1,7 @@
 -- `machine::soundness::turn_kept` meets its contract. Assumes nothing.
 use borrow.Author.Needs.{needs}
 use borrow.Author.Tests.{lt-ltb, le-ltb}
-use Rattle.machine.proofs.TestLaws.{holds, breaks}
+use Rattle.core.proofs.TestLaws.{holds, breaks}
 use Rattle.machine.proofs.soundness.turn_kept.Statement.{statement}
 use Rattle.machine.proofs.soundness.turn_kept.Tie as tie
 

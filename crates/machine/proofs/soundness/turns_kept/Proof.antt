@@ -7,7 +7,8 @@ use mathlib.Core.Logic.{⊎-elim}
 use borrow.Author.Needs.{needs}
 use Rattle.objset.specs.Objset.{each}
 use Rattle.machine.specs.Record.{tally}
-use Rattle.machine.proofs.TestLaws.{holds, breaks, each-none, each-more, tally-none, tally-counts, tally-skips}
+use Rattle.core.proofs.TestLaws.{holds, breaks, each-none, each-more}
+use Rattle.machine.proofs.Tally.{tally-none, tally-counts, tally-skips}
 use Rattle.machine.proofs.SoundLaws.{activeAt, turnAt, turn-on, turn-off, turn-fails, turns-all}
 use Rattle.machine.proofs.soundness.turns_kept.Statement.{statement}
 use Rattle.machine.proofs.soundness.turns_kept.Tie as tie

@@ -10,7 +10,7 @@ use borrow.Author.Needs.{needs}
 use borrow.Author.Tests.{le-leb, lt-leb, eq-eqb, ne-eqb}
 use Rattle.objset.specs.Objset.{each}
 use Rattle.machine.specs.declared.Machine.{Machine}
-use Rattle.machine.proofs.TestLaws.{each-none, each-more}
+use Rattle.core.proofs.TestLaws.{each-none, each-more}
 use Rattle.machine.proofs.SoundLaws.{versionAt, version-fails, versions-all}
 use Rattle.machine.proofs.soundness.versions_bounded.Statement.{statement}
 use Rattle.machine.proofs.soundness.versions_bounded.Tie as tie

@@ -5,7 +5,7 @@ use lib.ListN.{length}
 use lib.Seq.{length-take-le}
 use borrow.Author.Needs.{needs}
 use borrow.Author.Tests.{le-leb, lt-leb}
-use Rattle.machine.proofs.TestLaws.{holds, breaks}
+use Rattle.core.proofs.TestLaws.{holds, breaks}
 use Rattle.runner.specs.Doors.{readable}
 use Rattle.runner.proofs.Typed.{reading-formed}
 use Rattle.runner.proofs.soundness.is_readable.Statement.{statement}

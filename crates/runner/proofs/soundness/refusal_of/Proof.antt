@@ -2,7 +2,7 @@
 use mathlib.Core.Path.{sym, _∙_}
 use borrow.Author.Needs.{needs}
 use borrow.Author.Tests.{eq-eqb, ne-eqb, lt-ltb, le-ltb}
-use Rattle.machine.proofs.TestLaws.{holds, breaks}
+use Rattle.core.proofs.TestLaws.{holds, breaks}
 use Rattle.runner.specs.Doors.{refusal}
 use Rattle.runner.proofs.Doors.{room-test}
 use Rattle.runner.proofs.soundness.refusal_of.Statement.{statement}

@@ -6,7 +6,7 @@ use borrow.Author.Needs.{needs}
 use Rattle.machine.specs.Rule.{told, valued}
 use Rattle.machine.proofs.Facts.{stands, core-place, object-place}
 use Rattle.machine.proofs.Run.Places.{slot-inside}
-use Rattle.machine.proofs.TestLaws.{holds, breaks}
+use Rattle.core.proofs.TestLaws.{holds, breaks}
 use Rattle.machine.proofs.AccessLaws.{read-no-core, read-no-object, read-none, read-told, read-valued, value-own, value-other}
 use Rattle.machine.proofs.inside.access.read.Statement.{statement}
 use Rattle.machine.proofs.inside.access.read.Tie as tie

@@ -5,7 +5,7 @@ use borrow.Author.Needs.{needs}
 use Rattle.machine.specs.Rule.{told, written}
 use Rattle.machine.proofs.Facts.{stands, core-place, object-place}
 use Rattle.machine.proofs.Run.Places.{slot-inside}
-use Rattle.machine.proofs.TestLaws.{holds, breaks}
+use Rattle.core.proofs.TestLaws.{holds, breaks}
 use Rattle.machine.proofs.AccessLaws.{write-no-core, write-no-object, write-none, write-told, write-written}
 use Rattle.machine.proofs.inside.access.write.Statement.{statement}
 use Rattle.machine.proofs.inside.access.write.Tie as tie

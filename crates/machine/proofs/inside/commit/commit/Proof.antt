@@ -9,7 +9,7 @@ use Rattle.machine.specs.declared.Outcome.{Outcome}
 use Rattle.machine.specs.Answers.{named}
 use Rattle.machine.specs.Rule.{told, contender}
 use Rattle.machine.proofs.Facts.{core-place}
-use Rattle.machine.proofs.TestLaws.{holds, breaks}
+use Rattle.core.proofs.TestLaws.{holds, breaks}
 use Rattle.machine.proofs.CommitLaws.{someone-ahead, commit-no-core, commit-none, commit-told, commit-waits, commit-through, through-never-waits}
 use Rattle.machine.proofs.inside.commit.commit.Statement.{statement}
 use Rattle.machine.proofs.inside.commit.commit.Tie as tie

@@ -4,7 +4,7 @@ use native.Mathlib.Omega.{arith}
 use borrow.Author.Needs.{needs}
 use Rattle.machine.specs.Rule.{ended}
 use Rattle.machine.proofs.Facts.{core-place, one-open}
-use Rattle.machine.proofs.TestLaws.{holds, breaks}
+use Rattle.core.proofs.TestLaws.{holds, breaks}
 use Rattle.machine.proofs.CallLaws.{give-up-no-core, give-up-none, give-up-ends}
 use Rattle.machine.proofs.inside.transaction.give_up.Statement.{statement}
 use Rattle.machine.proofs.inside.transaction.give_up.Tie as tie
