@@ -11,7 +11,7 @@ use Rattle.objset.proofs.Laws.{each-one, one-each}
 use Rattle.core.specs.declared.Core.{Core}
 use Rattle.core.specs.declared.Job.{Job}
 use Rattle.core.specs.Parts.{noJob, jobAt}
-use Rattle.core.specs.Tidy.{_⇒_, setsWithin, ownerListed, emptySets, clear, idleClear, zombieEmpty, atMostEight, zeroJob, unusedJobs, ownerFirst, tidy}
+use Rattle.core.specs.Tidy.{_⇒_, setsWithin, ownerListed, emptySets, clear, idleClear, zombieEmpty, atMostEight, zeroJob, unusedJobs, ownerFirst}
 use Rattle.core.proofs.TestLaws.{if-true, true-if, both}
 
 -- empty sets, no mark, and owner's place, ticket and setbacks 0
@@ -76,3 +76,61 @@ is-clear k e =
 
 clear-is : (k : Core) → Clear k → (emptySets k && not (k .zombie) && eqb (k .owner) 0 && eqb (k .ticket) 0 && eqb (k .aborts) 0) ≡ true
 clear-is k s = rw (s .no-reads, s .no-writes, s .no-mark, s .no-owner, s .no-ticket, s .no-aborts)
+
+-- ---- a core that passes every test keeps every rule
+
+pub tidy-core : (objects : ℕ) (k : Core) → setsWithin objects k ≡ true → ownerListed k ≡ true → idleClear k ≡ true → zombieEmpty k ≡ true
+    → atMostEight k ≡ true → unusedJobs k ≡ true → ownerFirst k ≡ true → Tidy objects k
+tidy-core objects k a b e d f g h =
+    record {
+      reads-within = within (k .reads) objects (sets .0);
+      writes-within = within (k .writes) objects (sets .1);
+      owner-listed = owner;
+      idle-clear = λ p. is-clear k (if-true (not (k .active)) _ e (ap not p));
+      zombie-empty = λ p. empty-sets k (if-true (k .zombie) (emptySets k) d p);
+      at-most-eight = few;
+      unused-jobs = λ p l u.
+          zero-job (jobAt k p) (if-true (leb (k .count) p) (zeroJob (jobAt k p)) (each-one 8 _ g p l) (le-leb (k .count) p u));
+      owner-first = λ on p l.
+          ltb-true (jobAt k (k .owner) .deadline) (jobAt k p .deadline)
+          (if-true (ltb p (k .owner)) (ltb (jobAt k (k .owner) .deadline) (jobAt k p .deadline))
+          (each-one 8 _ (if-true (k .active) _ h on) p (omega (arith, owner on, few))) (lt-ltb p (k .owner) l));
+    }
+  where
+    sets : (below (k .reads) objects ≡ true) × (below (k .writes) objects ≡ true)
+    sets = both (below (k .reads) objects) (below (k .writes) objects) a
+
+    owner : k .active ≡ true → k .owner < k .count
+    owner on = ltb-true (k .owner) (k .count) (if-true (k .active) _ b on)
+
+    few : k .count ≤ 8
+    few = leb-true (k .count) 8 f
+
+-- ---- a core that keeps every rule passes every test
+
+module _ (objects : ℕ) (k : Core) (t : Tidy objects k) where
+  pub sets-pass : setsWithin objects k ≡ true
+  sets-pass = rw (is-below (k .reads) objects (t .reads-within), is-below (k .writes) objects (t .writes-within))
+
+  pub owner-passes : ownerListed k ≡ true
+  owner-passes = true-if (k .active) _ (λ a. lt-ltb (k .owner) (k .count) (t .owner-listed a))
+
+  pub idle-passes : idleClear k ≡ true
+  idle-passes = true-if (not (k .active)) _ (λ a. clear-is k (t .idle-clear (not-true (k .active) a)))
+
+  pub zombie-passes : zombieEmpty k ≡ true
+  zombie-passes = true-if (k .zombie) _ (λ z. rw (t .zombie-empty z .0, t .zombie-empty z .1))
+
+  pub eight-pass : atMostEight k ≡ true
+  eight-pass = le-leb (k .count) 8 (t .at-most-eight)
+
+  pub unused-pass : unusedJobs k ≡ true
+  unused-pass =
+      one-each 8 _ (λ p l. true-if (leb (k .count) p) _ (λ u. ap zeroJob (t .unused-jobs p l (leb-true (k .count) p u))))
+
+  pub first-passes : ownerFirst k ≡ true
+  first-passes =
+      true-if (k .active) _
+      (λ a. one-each 8 _
+      (λ p l. true-if (ltb p (k .owner)) _
+      (λ b. lt-ltb (jobAt k (k .owner) .deadline) (jobAt k p .deadline) (t .owner-first a p (ltb-true p (k .owner) b)))))

@@ -51,6 +51,10 @@ fullList k = leb 8 (k .count)
 abbrev pub jobless : Core → Bool
 jobless k = eqb (k .count) 0
 
+-- no transaction is in progress
+abbrev pub inactive : Core → Bool
+inactive k = not (k .active)
+
 -- 4,294,967,295 tickets given
 abbrev pub ticketsSpent : ℕ → Bool
 ticketsSpent tickets = leb 4294967295 tickets
@@ -89,7 +93,7 @@ abbrev pub valued : Core → Seen → ℕ → Acted
 valued k s d = left (withRead k d) s (Value (cond (has (k .writes) d) (s .pending) (s .committed)) (s .version))
 
 unfoldable pub readOn : Core → Seen → ℕ → Acted
-readOn k s d = unless (first ((not (k .active), 9) ∷ [])) k s (cond (k .zombie) (told k s) (valued k s d))
+readOn k s d = unless (first ((inactive k, 9) ∷ [])) k s (cond (k .zombie) (told k s) (valued k s d))
 
 -- ---- write: stores the pending word; the card joins the write set
 
@@ -98,7 +102,7 @@ written k s d v =
     record { core = withWrite k d; tickets = s .tickets; «give_ups» = s .«give_ups»; pending = v; answer = Written }
 
 unfoldable pub writeOn : Core → Seen → ℕ → ℕ → Acted
-writeOn k s d v = unless (first ((not (k .active), 9) ∷ [])) k s (cond (k .zombie) (told k s) (written k s d v))
+writeOn k s d v = unless (first ((inactive k, 9) ∷ [])) k s (cond (k .zombie) (told k s) (written k s d v))
 
 -- ---- give up: the transaction ends without effect
 
@@ -106,7 +110,7 @@ abbrev pub ended : Core → Seen → Acted
 ended k s = record { core = over k; tickets = s .tickets; «give_ups» = s .«give_ups» + 1; pending = s .pending; answer = Ended }
 
 unfoldable pub giveUpOn : Core → Seen → Acted
-giveUpOn k s = unless (first ((not (k .active), 9) ∷ [])) k s (ended k s)
+giveUpOn k s = unless (first ((inactive k, 9) ∷ [])) k s (ended k s)
 
 -- ---- finish: the running job leaves the list; its number is the answer
 

@@ -1,6 +1,6 @@
--- The laws of commit, over plain variables: what each function of it returns, and where its loops stand. Assumes nothing.
-use mathlib.Core.Path.{_≡_, refl, sym, ap, ap₂, _∙_}
-use mathlib.Core.Bool.{Bool, true, false, not, _&&_, _||_}
+-- The laws of commit, over plain variables: where its loop over the objects stands, who is ahead, and what it gives. Assumes nothing.
+use mathlib.Core.Path.{_≡_, refl, sym, ap, ap₂, subst, _∙_}
+use mathlib.Core.Bool.{Bool, true, false, cond, not, _&&_, _||_}
 use mathlib.Core.List.{List}
 use Prim.Native.Nat.{ℕ, zero, suc, _+_, _*_, _≤_, _<_}
 use native.Mathlib.Nat.{mul-le-mul-right, suc-mul}
@@ -9,59 +9,29 @@ use lib.Dec.{ltb}
 use lib.ListN.{length, getD, set}
 use lib.Seq.{set-getD}
 use borrow.Author.Tests.{ltb-true, ltb-false, eq-eqb, ne-eqb}
-use Rattle.objset.specs.Objset.{has, some, meeting}
+use Rattle.objset.specs.Objset.{has, some}
 use Rattle.objset.proofs.Laws.{one-some}
-use Rattle.machine.specs.declared.Machine.{Machine}
 use Rattle.core.specs.declared.Core.{Core}
-use Rattle.core.specs.declared.Answer.the-variants.{Refused, Waits, Committed}
-use Rattle.core.specs.Parts.{noCore, dataSet}
-use Rattle.machine.specs.Record.{coreAt}
-use Rattle.machine.specs.Sound.{sound}
-use Rattle.machine.specs.Rule.{World, Result, unlessLent, wrongTables, told, contender, blocked, cleared, changed, through, waiting, commitRefusal, commit}
-use Rattle.core.specs.Life.{conflict, aborted, struck, over}
-use Rattle.machine.proofs.Entries.{cleared-at, cleared-long, changed-at, changed-long}
-use Rattle.machine.proofs.Facts.{stands, core-place, one-open}
+use Rattle.core.specs.declared.Answer.{Answer}
+use Rattle.core.specs.declared.Answer.the-variants.{Refused, Waits, SetBack}
+use Rattle.core.specs.declared.calls.Settled.{Settled}
+use Rattle.core.specs.Parts.{noCore}
+use Rattle.core.specs.Life.{unmarked}
+use Rattle.core.specs.Calls.{stays, passes, commitOn}
 use Rattle.core.proofs.CallLaws.{skips, hits, none-holds}
-use Rattle.machine.proofs.CallLaws.{is-sound, a-core, no-core}
-use Rattle.machine.proofs.AccessLaws.{refused-lent, accepted-lent}
+use Rattle.machine.specs.declared.Machine.{Machine}
+use Rattle.machine.specs.declared.inside.calls.Found.{Found}
+use Rattle.machine.specs.Record.{coreAt, putCore}
+use Rattle.machine.specs.Sound.{sound}
+use Rattle.machine.specs.Answers.{kind, named}
+use Rattle.machine.specs.Inside.{Fine}
+use Rattle.machine.specs.Rule.{World, Result, withMachine, unlessLent, wrongTables, told, contender, blocked, changed, moved, through, waiting, commitRefusal, commit}
+use Rattle.machine.specs.OneCore.{found, firstHolding, strikes, settled}
+use Rattle.machine.proofs.Entries.{changed-at, changed-long}
+use Rattle.machine.proofs.Facts.{stands, core-place, one-open}
+use Rattle.machine.proofs.CallLaws.{is-sound, a-core, no-core, refused-lent, accepted-lent}
+use Rattle.machine.proofs.CoreLists.{holding-holds, holding-none, strikes-none, changed-none, strikes-cleared}
 use Rattle.machine.proofs.Front.{Stands, stands-next, stands-stored, stands-kept, stands-all}
-
--- ---- the loop over the cores
-
-module _ (ws c : ℕ) (old : List Core) where
-  module _ (e : ℕ) (now : List Core) (at : Stands e (cleared ws c 0 old) old now) (l : e < length old) where
-    -- the core whose turn it is is as it was
-    pub cleared-next : getD now e noCore ≡ getD old e noCore
-    cleared-next = stands-next (cleared ws c 0 old) old (cleared-long ws c 0 old) e now noCore at l
-
-    pub cleared-own : (next : List Core) → e ≡ c → next ≡ set now e (over (getD now e noCore))
-        → Stands (e + 1) (cleared ws c 0 old) old next
-    cleared-own next p =
-        stands-stored (cleared ws c 0 old) old (cleared-long ws c 0 old) e now next noCore _ at l
-        (ap over cleared-next ∙ sym (cleared-at ws c old e l ∙ rw (eq-eqb e c p) refl))
-
-    cleared-other : (next : List Core) → (e ≡ c → ⊥) → next ≡ set now e (struck ws (getD now e noCore))
-        → Stands (e + 1) (cleared ws c 0 old) old next
-    cleared-other next p =
-        stands-stored (cleared ws c 0 old) old (cleared-long ws c 0 old) e now next noCore _ at l
-        (ap (struck ws) cleared-next ∙ sym (cleared-at ws c old e l ∙ rw (ne-eqb e c p) refl))
-
-    pub cleared-struck : (next : List Core) → (e ≡ c → ⊥) → (getD now e noCore .active && meeting ws (dataSet (getD now e noCore))) ≡ true
-        → next ≡ set now e (aborted (getD now e noCore)) → Stands (e + 1) (cleared ws c 0 old) old next
-    cleared-struck next p h q = cleared-other next p (q ∙ ap (set now e) (struck-hit ws (getD now e noCore) h))
-
-    pub cleared-missed : (next : List Core) → (e ≡ c → ⊥) → (getD now e noCore .active && meeting ws (dataSet (getD now e noCore))) ≡ false
-        → next ≡ now → Stands (e + 1) (cleared ws c 0 old) old next
-    cleared-missed next p h q =
-        cleared-other next p (q ∙ sym (set-getD now e noCore) ∙ ap (set now e) (struck-missed ws (getD now e noCore) h))
-
-  -- the cores from n on have no transaction, and c is not among them
-  pub cleared-done : (n : ℕ) (now : List Core) → Stands n (cleared ws c 0 old) old now → c < n
-      → ((e : ℕ) → e < length old → n ≤ e → getD old e noCore .active ≡ false) → now ≡ cleared ws c 0 old
-  cleared-done n now at h idle =
-      stands-all (cleared ws c 0 old) old (cleared-long ws c 0 old) n now noCore at
-      (λ e l p. struck-idle ws (getD old e noCore) (idle e l p)
-      ∙ sym (cleared-at ws c old e l ∙ rw (ne-eqb e c (λ q. omega arith)) refl))
 
 -- ---- the loops over the objects of the write set
 
@@ -147,14 +117,6 @@ row-within c cores objects h = omega (arith, mul-le-mul-right objects h, suc-mul
 
 -- ---- each way that commit can go
 
--- a commit that goes through answers committed, and not waits
-pub through-never-waits : (w : World) (c : ℕ) (r : Result) → r ≡ through w c → (e : ℕ) → r .answer ≡ Waits e → ⊥
-unfolding through
-through-never-waits w c r p e q =
-    let done : r .answer ≡ Committed (coreAt (w .machine) c .aborts) = ap (λ (x : Result). x .answer) p in
-    let no : _≡_ {A = ℕ} 0 1 = cc in
-    omega arith
-
 module _ (w : World) (c : ℕ) (s : sound (w .machine) ≡ true) (committed-fits : length (w .committed) ≡ w .machine .objects)
     (pending-fits : length (w .pending) ≡ w .machine .cores * w .machine .objects) where
   fit : wrongTables w ≡ false
@@ -192,3 +154,106 @@ module _ (w : World) (c : ℕ) (s : sound (w .machine) ≡ true) (committed-fits
         pub commit-through : (e : ℕ) → blocked (w .machine) c ≡ false → through w c ≡ commit e w c
         unfolding commit
         commit-through e b = rw (z, b) (taken (through w c))
+
+-- ---- what a commit gives on its own core, carried out, is what the rule gives
+
+module _ (w : World) where
+  abbrev m : Machine
+  m = w .machine
+
+  no-more : (n : ℕ) → n + 0 ≡ n
+  no-more n = omega arith
+
+  -- it does not go through: the empty write set changes nothing but the core
+  settle-stays : (c : ℕ) (k : Core) (a : Answer) → settled w c (stays k a) ≡ record { answer = a; world = withMachine w (putCore m c k) }
+  settle-stays c k a =
+      rw (
+        strikes-none (set (m .core) c k),
+        changed-none (λ d v. v + 1) 0 (m .versions),
+        changed-none (moved w c) 0 (w .committed),
+        no-more (m .commits),
+      )
+      refl
+
+  settle-same : (c : ℕ) (a : Answer) → settled w c (stays (coreAt m c) a) ≡ record { answer = a; world = w }
+  settle-same c a =
+      settle-stays c (coreAt m c) a
+      ∙ ap
+      (λ (cores : List Core).
+      record {
+        answer = a;
+        world =
+            withMachine w
+            (record { cores = m .cores; objects = m .objects; tickets = m .tickets; commits = m .commits; «give_ups» = m .«give_ups»; core = cores; versions = m .versions });
+      })
+      (set-getD (m .core) c noCore)
+
+  -- it goes through
+  settle-passes : (c : ℕ) → c < length (m .core) → settled w c (passes (coreAt m c)) ≡ through w c
+  unfolding through
+  settle-passes c l = rw (strikes-cleared (coreAt m c .writes) c (m .core) l) refl
+
+  module _ (f : Fine w) (long : length (m .core) ≡ 16) (c : ℕ) where
+    -- by the rule, and the core that waits names is one that may be named
+    Settles : ℕ → Settled → Type 0
+    Settles at r = (settled w at r ≡ commit (named (r .answer)) w c) × ((e : ℕ) → r .answer ≡ Waits e → contender m c e ≡ true)
+
+    -- an answer of another kind names no core
+    kinds-differ : (a : Answer) (n : ℕ) → kind a ≡ n → (n ≡ 6 → ⊥) → (e : ℕ) → a ≡ Waits e → contender m c e ≡ true
+    unfolding kind
+    kinds-differ a n is h e p = absurd (h (sym is ∙ ap kind p))
+
+    same-core : (b e : ℕ) → Waits b ≡ Waits e → b ≡ e
+    unfolding named
+    same-core b e p = ap named p
+
+    module _ (h : c < m .cores) where
+      ahead : ℕ
+      ahead = firstHolding (m .core) (coreAt m c)
+
+      held : ahead < 16 → contender m c ahead ≡ true
+      unfolding contender ahead
+      held l = holding-holds (coreAt m c) (m .core) long l
+
+      free : 16 ≤ ahead → blocked m c ≡ false
+      unfolding contender ahead
+      free l = nobody-ahead m (f .is-sound) c (λ e b. holding-none (coreAt m c) (m .core) long l e (core-place m (f .is-sound) e b))
+
+      on-core : (a z q : Bool) → coreAt m c .active ≡ a → coreAt m c .zombie ≡ z → ltb ahead 16 ≡ q
+          → Settles c
+          (cond a (cond z (stays (unmarked (coreAt m c)) SetBack) (cond q (stays (coreAt m c) (Waits ahead)) (passes (coreAt m c)))) (stays (coreAt m c) (Refused 9)))
+      unfolding Settles
+      on-core false z q off mark test =
+          (settle-same c (Refused 9) ∙ commit-none w c (f .is-sound) (f .committed-long) (f .pending-long) h _ off, kinds-differ _ 11 (unfold kind in refl) (λ x. omega arith))
+      on-core true true q on mark test =
+          (settle-stays c (unmarked (coreAt m c)) SetBack ∙ unfold told in commit-told w c (f .is-sound) (f .committed-long) (f .pending-long) h on _ mark,
+          kinds-differ _ 8 (unfold kind in refl) (λ x. omega arith))
+      on-core true false true on mark test =
+          let there = held (ltb-true _ _ test) in
+          (settle-same c (Waits ahead)
+          ∙ unfold named in commit-waits w c (f .is-sound) (f .committed-long) (f .pending-long) h on mark ahead (someone-ahead m c ahead (ltb-true _ _ test) there),
+          λ e p. subst (λ (x : ℕ). contender m c x ≡ true) (same-core ahead e p) there)
+      on-core true false false on mark test =
+          (settle-passes c (omega (arith, long, core-place m (f .is-sound) c h))
+          ∙ commit-through w c (f .is-sound) (f .committed-long) (f .pending-long) h on mark _ (free (ltb-false _ _ test)),
+          kinds-differ _ 7 (unfold kind in refl) (λ x. omega arith))
+
+    -- what the commit gives where it finds its core
+    abbrev pub settledAt : Found → Settled
+    settledAt to = commitOn (to .refusal) (coreAt m (to .core)) (firstHolding (m .core) (coreAt m (to .core)))
+
+    pub by-commit : let to : Found = found c 0 (m .cores) (m .objects) in
+        (settled w (to .core) (settledAt to) ≡ commit (named (settledAt to .answer)) w c)
+        × ((e : ℕ) → settledAt to .answer ≡ Waits e → contender m c e ≡ true)
+    unfolding found commitOn
+    by-commit = go (ltb c (m .cores)) refl (ltb 0 (m .objects)) refl
+      where
+        go : (p : Bool) → ltb c (m .cores) ≡ p → (q : Bool) → ltb 0 (m .objects) ≡ q
+            → let to : Found = cond p (cond q (record { core = c; object = 0; refusal = 0 }) (record { core = 0; object = 0; refusal = 5 })) (record { core = 0; object = 0; refusal = 4 }) in
+            (settled w (to .core) (settledAt to) ≡ commit (named (settledAt to .answer)) w c)
+            × ((e : ℕ) → settledAt to .answer ≡ Waits e → contender m c e ≡ true)
+        go true h true l = unfold Settles ahead in on-core (ltb-true _ _ h) (coreAt m c .active) (coreAt m c .zombie) (ltb (ahead (ltb-true _ _ h)) 16) refl refl refl
+        go true h false l = absurd (omega (arith, ltb-false 0 (m .objects) l, stands m (f .is-sound) .some-objects))
+        go false h q l =
+            (settle-same 0 (Refused 4) ∙ commit-no-core w c (f .is-sound) (f .committed-long) (f .pending-long) _ (ltb-false _ _ h),
+            kinds-differ _ 11 (unfold kind in refl) (λ x. omega arith))

@@ -17,7 +17,7 @@ use Rattle.machine.specs.Refusals.{at, refusals}
 use Rattle.machine.proofs.Refusals.{refused-with}
 use Rattle.core.proofs.CallLaws.{skips, hits, none-holds}
 use Rattle.machine.proofs.CallLaws.{is-sound}
-use Rattle.machine.proofs.AccessLaws.{refused-lent, accepted-lent}
+use Rattle.machine.proofs.CallLaws.{refused-lent, accepted-lent}
 
 -- ---- 2: an unsound record
 

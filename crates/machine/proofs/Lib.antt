@@ -1,12 +1,12 @@
 mod Tally
 mod Entries
 mod CallLaws
-mod AccessLaws
 mod DoorLaws
-mod JobCalls
+pub mod CoreCalls
+pub mod CoreLists
 mod Facts
 mod Front
-mod CommitLaws
+pub mod CommitLaws
 mod SoundLaws
 pub mod Refusals
 mod Told

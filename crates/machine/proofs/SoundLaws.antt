@@ -14,7 +14,7 @@ use Rattle.core.specs.declared.Core.{Core}
 use Rattle.core.specs.declared.Job.{Job}
 use Rattle.core.specs.Parts.{noJob}
 use Rattle.machine.specs.Record.{coreAt, tally}
-use Rattle.core.specs.Tidy.{_⇒_, emptySets, zeroJob}
+use Rattle.core.specs.Tidy.{_⇒_, unused, tidy}
 use Rattle.machine.specs.Sound.{ahead, sound}
 use Rattle.machine.specs.Sound.{inRange, setsWithin, ownerListed, idleClear, zombieEmpty, atMostEight}
 use Rattle.machine.specs.Sound.{unusedJobs, ownerFirst, lackedCores, versionsBounded, lackedObjects}
@@ -28,11 +28,11 @@ use Rattle.machine.proofs.Sound.Passed.{passed, passed-all}
 
 -- what lacked_blank tests of core c
 abbrev pub lackedAt : Machine → ℕ → Bool
-lackedAt m c = leb (m .cores) c ⇒ eqb (coreAt m c .count) 0 && not (coreAt m c .active)
+lackedAt m c = leb (m .cores) c ⇒ unused (coreAt m c)
 
 -- what cores_tidy tests of core c
 abbrev pub tidyAt : Machine → ℕ → Bool
-tidyAt m c = tidyOf (m .objects) (coreAt m c) && lackedAt m c
+tidyAt m c = tidy (m .objects) (coreAt m c) && lackedAt m c
 
 -- the rules so tested
 abbrev pub tidyCores : Machine → Bool

@@ -2,11 +2,11 @@
 -- call keeps. Assumes nothing.
 use mathlib.Core.Path.{_≡_}
 use mathlib.Core.Bool.{true}
-use Prim.Native.Nat.{ℕ, _*_, _^_, _≤_, _<_}
+use Prim.Native.Nat.{ℕ, _*_, _≤_, _<_}
 use lib.ListN.{length}
 use Rattle.machine.specs.declared.Machine.{Machine}
-use Rattle.core.specs.declared.Core.{Core}
 use Rattle.machine.specs.Record.{coreAt}
+use Rattle.core.specs.Formed.{Formed-core}
 use Rattle.machine.specs.Sound.{sound}
 use Rattle.machine.specs.Rule.{World}
 

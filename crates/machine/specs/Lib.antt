@@ -3,6 +3,7 @@ pub mod Sound
 pub mod Answers
 pub mod Rule
 pub mod Inside
+pub mod OneCore
 pub mod Refusals
 pub mod Follows
 pub mod Words

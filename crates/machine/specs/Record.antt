@@ -1,13 +1,11 @@
--- The record's parts: a core, a job, what is blank, and one core put in another's place. Assumes nothing.
-use mathlib.Core.Bool.{Bool, false, cond, _&&_}
-use mathlib.Core.List.{List, []}
+-- The record's parts: a core, its sizes, what is blank, and one core put in another's place. Assumes nothing.
+use mathlib.Core.Bool.{Bool, cond, _&&_}
 use Prim.Native.Nat.{ℕ, zero, suc, _+_}
 use lib.Dec.{ltb, leb}
 use lib.ListN.{getD, set, replicate}
-use Rattle.objset.specs.Objset.{joined}
 use Rattle.machine.specs.declared.Machine.{Machine}
 use Rattle.core.specs.declared.Core.{Core}
-use Rattle.core.specs.declared.Job.{Job}
+use Rattle.core.specs.Parts.{noCore, blankCore}
 
 abbrev pub coreAt : Machine → ℕ → Core
 coreAt m c = getD (m .core) c noCore

@@ -1,18 +1,21 @@
 -- The eight calls (document 01): for each the answer and what comes after it, refusals first, the smallest that applies.
 -- Assumes nothing.
-use mathlib.Core.Bool.{Bool, true, false, cond, not, _&&_, _||_}
-use mathlib.Core.List.{List, [], _∷_, _++_}
-use Prim.Native.Nat.{ℕ, zero, suc, _+_, _*_, _-_}
-use lib.Dec.{eqb, leb, ltb}
-use lib.ListN.{getD, set, length, replicate, take, drop}
-use Rattle.objset.specs.Objset.{has, some, added, meeting}
+use mathlib.Core.Bool.{Bool, cond, not, _&&_}
+use mathlib.Core.List.{List, [], _∷_}
+use Prim.Native.Nat.{ℕ, zero, suc, _+_, _*_}
+use lib.Dec.{eqb, ltb}
+use lib.ListN.{getD, set, length, replicate}
+use Rattle.objset.specs.Objset.{has, some}
 use Rattle.machine.specs.declared.Machine.{Machine}
 use Rattle.core.specs.declared.Core.{Core}
 use Rattle.core.specs.declared.Job.{Job}
 use Rattle.core.specs.declared.Answer.{Answer}
 use Rattle.core.specs.declared.Answer.the-variants.{Ready, Running, Queued, Begun, Value, Written, Waits, Committed, SetBack, Ended, Finished, Refused}
 use Rattle.machine.specs.declared.Outcome.{Outcome}
-use Rattle.core.specs.Parts.{noJob, jobAt, idle, dataSet, running}
+use Rattle.core.specs.Parts.{jobAt, running}
+use Rattle.core.specs.Life.{withJob, withoutJob, withTransaction, unmarked, withRead, withWrite, holdsBack, struck, over}
+use Rattle.core.specs.Calls as Core
+use Rattle.core.specs.Calls.{first}
 use Rattle.machine.specs.Record.{coreAt, sizesInRange, blank, machineOf, putCore}
 use Rattle.machine.specs.Sound.{sound}
 
@@ -37,11 +40,6 @@ left o committed pending = record { answer = o .answer; world = lent (o .machine
 
 abbrev pub withMachine : World → Machine → World
 withMachine w m = record { machine = m; committed = w .committed; pending = w .pending }
-
--- the first condition that holds, by its number; 0 where none does
-unfoldable pub first : List (Bool × ℕ) → ℕ
-first [] = 0
-first (x ∷ xs) = cond (x .0) (x .1) (first xs)
 
 -- the number of a refusal takes the place of what an accepted call gives; the record is handed back as given
 unfoldable pub unless : ℕ → Machine → Outcome → Outcome
@@ -76,17 +74,17 @@ abbrev pub noSuchObject : Machine → ℕ → Bool
 noSuchObject m d = not (ltb d (m .objects))
 
 abbrev pub fullList : Machine → ℕ → Bool
-fullList m c = leb 8 (coreAt m c .count)
+fullList m c = Core.fullList (coreAt m c)
 
 abbrev pub jobless : Machine → ℕ → Bool
-jobless m c = eqb (coreAt m c .count) 0
+jobless m c = Core.jobless (coreAt m c)
 
 abbrev pub inProgress : Machine → ℕ → Bool
 inProgress m c = coreAt m c .active
 
 -- 4,294,967,295 tickets given
 abbrev pub ticketsSpent : Machine → Bool
-ticketsSpent m = leb 4294967295 (m .tickets)
+ticketsSpent m = Core.ticketsSpent (m .tickets)
 
 -- ---- setup: no jobs, no transactions, all versions and both tables zero
 

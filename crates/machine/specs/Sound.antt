@@ -1,14 +1,14 @@
 -- The standing rules of a record (document 01), one definition each, in the document's order. Assumes nothing.
-use mathlib.Core.Bool.{Bool, not, _&&_, _||_}
+use mathlib.Core.Bool.{Bool, not, _&&_}
 use Prim.Native.Nat.{ℕ, _+_}
 use lib.Dec.{eqb, leb, ltb}
 use lib.ListN.{getD}
-use Rattle.objset.specs.Objset.{each, below}
+use Rattle.objset.specs.Objset.{each}
 use Rattle.machine.specs.declared.Machine.{Machine}
 use Rattle.core.specs.declared.Core.{Core}
-use Rattle.core.specs.declared.Job.{Job}
 use Rattle.machine.specs.Record.{coreAt, tally, sizesInRange}
-use Rattle.core.specs.Parts.{jobAt}
+use Rattle.core.specs.Tidy as Tidy
+use Rattle.core.specs.Tidy.{_⇒_}
 
 -- a rule that each of the sixteen places for cores keeps
 abbrev pub eachCore : (Core → Bool) → Machine → Bool

@@ -1,13 +1,15 @@
-// The machine's record (document 01: the record that each call but setup takes and all hand back), the answers of the eight
-// calls, what a call hands back, and the eight calls. Each promise is an equation with the rule (specs/Rule.antt) for the answer,
+// The machine's record (document 01: the record that each call but setup takes and all hand back), what a call hands back, and the
+// eight calls. Each promise is an equation with the rule (specs/Rule.antt) for the answer,
 // the whole record and every word of both tables, for every record, sound or not, and every table length. Assumes nothing.
-use crate::inside::access;
+use crate::inside::calls::access;
+use crate::inside::calls::alone;
 use crate::inside::commit;
-use crate::inside::jobs;
-use crate::inside::transaction;
 use crate::setup::clear;
 use crate::setup::fresh;
 use crate::soundness::is_sound;
+use core::Answer;
+use core::Core;
+use core::calls::Act;
 ghost use mathlib.Core.Path.{_≡_};
 ghost use mathlib.Core.Bool.{true, _&&_};
 ghost use Prim.Native.Nat.{ℕ, _*_};
@@ -26,31 +28,6 @@ pub mod inside;
 mod setup;
 mod soundness;
 
-// A job in a core's list.
-pub struct Job {
-    pub number: u16,
-    pub deadline: u32,
-}
-
-// One core: its list of jobs and its transaction.
-pub struct Core {
-    // the list, in order of release; the places from count on are unused
-    pub jobs: [Job; 8],
-    pub count: u8,
-    // a transaction is in progress
-    pub active: bool,
-    // the place of the transaction's job in the list (document 01: owner's place)
-    pub owner: u8,
-    pub ticket: u32,
-    // how often the transaction was aborted (document 01: setbacks)
-    pub aborts: u8,
-    // aborted by another's commit and not told yet (document 01: marked)
-    pub zombie: bool,
-    // the read set and the write set
-    pub reads: u64,
-    pub writes: u64,
-}
-
 pub struct Machine {
     // how many cores and objects (document 01: cards) there are
     pub cores: u8,
@@ -62,28 +39,6 @@ pub struct Machine {
     pub core: [Core; 16],
     // for each object the count of commits that wrote it
     pub versions: [u32; 64],
-}
-
-// What a call answers.
-pub enum Answer {
-    Ready,
-    Running,
-    Queued,
-    // the ticket
-    Begun(u32),
-    // the value and the committed version
-    Value(u32, u32),
-    Written,
-    // the core of a conflicting transaction with a smaller ticket
-    Waits(u8),
-    // the count of aborts (document 01: setbacks)
-    Committed(u8),
-    SetBack,
-    Ended,
-    // the job's number
-    Finished(u16),
-    // the number of the refusal
-    Refused(u8),
 }
 
 // What a call hands back: the record after it and its answer. The record stands first, which saves the compiler copies of it.
@@ -182,7 +137,7 @@ impl Machine {
                 machine: self,
             };
         }
-        jobs::release(self, core, job, deadline)
+        alone(self, core, Act::Release(job, deadline))
     }
 
     // The running job's transaction gets the next ticket: 2 unsound record, 4 no such core, 7 the core has no job, 8 a transaction
@@ -197,7 +152,7 @@ impl Machine {
                 machine: self,
             };
         }
-        transaction::begin(self, core)
+        alone(self, core, Act::Begin)
     }
 
     // The card's pending value if this attempt wrote it, else its committed value, and the committed version; the card joins the
@@ -219,7 +174,7 @@ impl Machine {
                 machine: self,
             };
         }
-        access::read(self, core, object, committed, pending)
+        access(self, core, Act::Read(object), committed, pending)
     }
 
     // Stores the pending word; the card joins the write set. A marked transaction is told that it was set back instead. 2 unsound
@@ -248,7 +203,7 @@ impl Machine {
                 machine: self,
             };
         }
-        access::write(self, core, object, value, committed, pending)
+        access(self, core, Act::Write(object, value), committed, pending)
     }
 
     // The transaction commits, with the count of setbacks, or waits for one ahead of it, or is told that it was set back. 2 unsound
@@ -286,7 +241,7 @@ impl Machine {
                 machine: self,
             };
         }
-        transaction::give_up(self, core)
+        alone(self, core, Act::GiveUp)
     }
 
     // The running job leaves the list, the others keep their order; its number is the answer. 2 unsound record, 4 no such core, 7
@@ -301,6 +256,6 @@ impl Machine {
                 machine: self,
             };
         }
-        jobs::finish(self, core)
+        alone(self, core, Act::Finish)
     }
 }

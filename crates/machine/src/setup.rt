@@ -1,7 +1,6 @@
 // A new machine: no jobs, no transactions, all versions and both tables zero. Assumes nothing.
-use crate::Core;
-use crate::Job;
 use crate::Machine;
+use core::Core;
 ghost use mathlib.Core.Path.{_≡_};
 ghost use lib.ListN.{length, replicate};
 ghost use Rattle.machine.specs.Record.{machineOf};
@@ -10,21 +9,7 @@ ghost use Rattle.machine.specs.Record.{machineOf};
 pub fn fresh(cores: u8, objects: u8) -> Machine
     ensures { λ r. ⌜ r ≡ machineOf cores objects ⌝ }
 {
-    let none = Job {
-        number: 0,
-        deadline: 0,
-    };
-    let idle = Core {
-        jobs: [none; 8],
-        count: 0,
-        active: false,
-        owner: 0,
-        ticket: 0,
-        aborts: 0,
-        zombie: false,
-        reads: objset::empty(),
-        writes: objset::empty(),
-    };
+    let idle = Core::blank();
     Machine {
         cores,
         objects,

@@ -1,15 +1,15 @@
 // The soundness test: whether a record, whatever its fields hold, keeps the standing rules (document 01). Each promise is an
 // equation with the rules' own definitions in specs/Sound.antt. Assumes nothing.
-use crate::Core;
 use crate::Machine;
+use core::Core;
+use core::is_tidy;
 ghost use mathlib.Core.Path.{_≡_};
 ghost use mathlib.Core.Bool.{not, _&&_};
 ghost use Prim.Native.Nat.{_+_, _<_};
 ghost use lib.Dec.{eqb, leb, ltb};
-ghost use Rattle.objset.specs.Objset.{each, below};
+ghost use Rattle.objset.specs.Objset.{each};
 ghost use Rattle.machine.specs.Record.{coreAt};
-ghost use Rattle.core.specs.Parts.{jobAt};
-ghost use Rattle.core.specs.Tidy.{_⇒_, emptySets, zeroJob};
+ghost use Rattle.core.specs.Tidy.{_⇒_, unused};
 ghost use Rattle.machine.specs.Sound.{ahead, sound};
 ghost use Rattle.machine.specs.Sound.{inRange, setsWithin, ownerListed, idleClear, zombieEmpty, atMostEight};
 ghost use Rattle.machine.specs.Sound.{unusedJobs, ownerFirst, lackedCores, versionsBounded, lackedObjects};
@@ -22,132 +22,9 @@ fn in_range(m: Machine) -> bool
     crate::in_range(m.cores as u32, m.objects as u32)
 }
 
-// Whether the core's sets lie within the objects.
-fn sets_within(k: Core, objects: u8) -> bool
-    ensures { λ r. ⌜ r ≡ (below (k .reads) objects && below (k .writes) objects) ⌝ }
-{
-    let n = objects as usize;
-    if !objset::within(k.reads, n) {
-        return false;
-    }
-    objset::within(k.writes, n)
-}
-
-// Whether the core's sets are empty.
-fn sets_empty(k: Core) -> bool
-    ensures { λ r. ⌜ r ≡ emptySets k ⌝ }
-{
-    if k.reads != 0 {
-        return false;
-    }
-    k.writes == 0
-}
-
-// Whether the core has empty sets, no mark, and owner's place, ticket and aborts (document 01: setbacks) 0.
-fn is_clear(k: Core) -> bool
-    ensures { λ r. ⌜ r ≡ (emptySets k && not (k .zombie) && eqb (k .owner) 0 && eqb (k .ticket) 0 && eqb (k .aborts) 0) ⌝ }
-{
-    if !sets_empty(k) {
-        return false;
-    }
-    if k.zombie {
-        return false;
-    }
-    if k.owner != 0 {
-        return false;
-    }
-    if k.ticket != 0 {
-        return false;
-    }
-    k.aborts == 0
-}
-
-// Whether the transaction's job is one of the list's, a core without a transaction is clear, and a marked one has empty sets.
-fn transaction_tidy(k: Core) -> bool
-    ensures { λ r. ⌜ r ≡ ((k .active ⇒ ltb (k .owner) (k .count))
-        && (not (k .active) ⇒ emptySets k && not (k .zombie) && eqb (k .owner) 0 && eqb (k .ticket) 0 && eqb (k .aborts) 0)
-        && (k .zombie ⇒ emptySets k)) ⌝ }
-{
-    if k.active {
-        if k.count <= k.owner {
-            return false;
-        }
-        if k.zombie {
-            return sets_empty(k);
-        }
-        return true;
-    }
-    is_clear(k)
-}
-
-// Whether the unused job places hold zeros.
-fn unused_zero(k: Core) -> bool
-    ensures { λ r. ⌜ r ≡ each 8 (λ p. leb (k .count) p ⇒ zeroJob (jobAt k p)) ⌝ }
-{
-    let jobs = k.jobs;
-    let mut p = k.count as usize;
-    while p < 8 {
-        let j = jobs[p];
-        if j.number != 0 {
-            return false;
-        }
-        if j.deadline != 0 {
-            return false;
-        }
-        p += 1;
-    }
-    true
-}
-
-// Whether every job listed before the owner's has a greater deadline.
-fn owner_first(k: Core) -> bool
-    requires { ⌜ k .owner < 8 ⌝ }
-    ensures { λ r. ⌜ r ≡ each 8 (λ p. ltb p (k .owner) ⇒ ltb (jobAt k (k .owner) .deadline) (jobAt k p .deadline)) ⌝ }
-{
-    let jobs = k.jobs;
-    let owner = k.owner as usize;
-    let deadline = jobs[owner].deadline;
-    let mut p: usize = 0;
-    while p < owner {
-        if jobs[p].deadline <= deadline {
-            return false;
-        }
-        p += 1;
-    }
-    true
-}
-
-// Whether the core keeps the rules that a core keeps by itself: those above, and its list has at most 8 jobs.
-fn core_tidy(k: Core, objects: u8) -> bool
-    ensures { λ r. ⌜ r ≡ (below (k .reads) objects && below (k .writes) objects
-        && (k .active ⇒ ltb (k .owner) (k .count))
-        && (not (k .active) ⇒ emptySets k && not (k .zombie) && eqb (k .owner) 0 && eqb (k .ticket) 0 && eqb (k .aborts) 0)
-        && (k .zombie ⇒ emptySets k)
-        && leb (k .count) 8
-        && each 8 (λ p. leb (k .count) p ⇒ zeroJob (jobAt k p))
-        && (k .active ⇒ each 8 (λ p. ltb p (k .owner) ⇒ ltb (jobAt k (k .owner) .deadline) (jobAt k p .deadline)))) ⌝ }
-{
-    if !sets_within(k, objects) {
-        return false;
-    }
-    if !transaction_tidy(k) {
-        return false;
-    }
-    if k.count > 8 {
-        return false;
-    }
-    if !unused_zero(k) {
-        return false;
-    }
-    if k.active {
-        return owner_first(k);
-    }
-    true
-}
-
 // Whether core c, if the machine lacks it, has no jobs and no transaction.
 fn lacked_blank(k: Core, c: usize, cores: u8) -> bool
-    ensures { λ r. ⌜ r ≡ (leb cores c ⇒ eqb (k .count) 0 && not (k .active)) ⌝ }
+    ensures { λ r. ⌜ r ≡ (leb cores c ⇒ unused k) ⌝ }
 {
     if c < cores as usize {
         return true;
@@ -169,7 +46,7 @@ fn cores_tidy(m: Machine) -> bool
     let mut c: usize = 0;
     while c < 16 {
         let k = m.core[c];
-        if !core_tidy(k, m.objects) {
+        if !is_tidy(k, m.objects) {
             return false;
         }
         if !lacked_blank(k, c, m.cores) {

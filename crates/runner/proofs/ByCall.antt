@@ -7,6 +7,7 @@ use lib.ListN.{length, take, drop, take-append-drop}
 use types.Run.{OneOf, miss}
 use denote.Enum.Declared.{tagOf}
 use Rattle.machine.specs.Record.{blank}
+use Rattle.core.specs.Calls.{first}
 use Rattle.machine.specs.Rule as Rule
 use Rattle.machine.specs.Rule.{World, Result, lent, release, begin, read, write, commit, giveUp, finish, firstAhead, coreOf}
 use Rattle.machine.specs.Follows.{Follows}
@@ -59,14 +60,14 @@ module _ (m : Machine) (cs ps : List ℕ) (g : Good (held m cs ps)) (cl : length
 -- ---- a blank record
 
 unsound-unless : (b : Bool) → b ≡ false → (m : Machine) (xs : List (Bool × ℕ)) (o : Outcome)
-    → Rule.unless (Rule.first ((not b, 2) ∷ xs)) m o ≡ record { answer = Refused 2; machine = m }
+    → Rule.unless (first ((not b, 2) ∷ xs)) m o ≡ record { answer = Refused 2; machine = m }
 unsound-unless true e m xs o = absurd (true≢false e)
-unsound-unless false e m xs o = unfold Rule.first Rule.unless in refl
+unsound-unless false e m xs o = unfold first Rule.unless in refl
 
 unsound-unless-lent : (b : Bool) → b ≡ false → (w : World) (xs : List (Bool × ℕ)) (o : Result)
-    → Rule.unlessLent (Rule.first ((not b, 2) ∷ xs)) w o ≡ record { answer = Refused 2; world = w }
+    → Rule.unlessLent (first ((not b, 2) ∷ xs)) w o ≡ record { answer = Refused 2; world = w }
 unsound-unless-lent true e w xs o = absurd (true≢false e)
-unsound-unless-lent false e w xs o = unfold Rule.first Rule.unlessLent in refl
+unsound-unless-lent false e w xs o = unfold first Rule.unlessLent in refl
 
 blank-unsound : Sound.sound blank ≡ false
 unfolding Sound.sound Sound.inRange

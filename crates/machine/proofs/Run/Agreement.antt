@@ -16,6 +16,7 @@ use Rattle.core.specs.declared.Answer.the-variants.{SetBack, Refused}
 use Rattle.machine.specs.Answers.{kind}
 use Rattle.core.specs.Parts.{noCore}
 use Rattle.machine.specs.Record.{coreAt, putCore}
+use Rattle.core.specs.Life as Life
 use Rattle.machine.specs.Rule as Rule
 use Rattle.machine.specs.Rule.{World, Call, Release, Begin, Read, Write, Commit, GiveUp, Finish, withMachine}
 use Rattle.core.specs.Life.{withList, withSets}
@@ -322,8 +323,8 @@ module _ {o : ℕ} {w : World} {h : List Deed} (a : Agree o w h) where
   pub step-gives : (c : ℕ) → Core-ok (w .machine) c → Agree o (withMachine w (Rule.ended (w .machine) c .machine)) (gives c ∷ h)
   unfolding Rule.ended wrote any
   step-gives c ok =
-      agree-core a (gives c) tt (w .machine .commits) (w .machine .«give_ups» + 1) c (Rule.over (coreAt (w .machine) c)) (inside a ok) (λ e q. q)
-      (agrees-idle (Rule.over (coreAt (w .machine) c)) (view (gives c ∷ h) c) refl refl refl refl (view-gives h c))
+      agree-core a (gives c) tt (w .machine .commits) (w .machine .«give_ups» + 1) c (Life.over (coreAt (w .machine) c)) (inside a ok) (λ e q. q)
+      (agrees-idle (Life.over (coreAt (w .machine) c)) (view (gives c ∷ h) c) refl refl refl refl (view-gives h c))
       (λ d l t. absurd (true≢false (sym (rw (view-gives h c .1) at t))))
 
   pub step-begins : (c : ℕ) → Core-ok (w .machine) c → coreAt (w .machine) c .active ≡ false

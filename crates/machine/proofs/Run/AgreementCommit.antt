@@ -14,6 +14,7 @@ use Rattle.objset.proofs.Laws.{both-left, both-right}
 use Rattle.core.specs.declared.Core.{Core}
 use Rattle.core.specs.Parts.{noCore}
 use Rattle.machine.specs.Record.{coreAt}
+use Rattle.core.specs.Life as Life
 use Rattle.machine.specs.Rule as Rule
 use Rattle.machine.specs.Rule.{World}
 use Rattle.machine.proofs.Case.{Lent-ok, struck-conflicts, not-ahead}
@@ -37,7 +38,7 @@ module _ {o : ℕ} {w : World} {h : List Deed} (a : Agree o w h) (c : ℕ) (ok :
 
   -- the record strikes core e where the words do
   record-strikes : (e : ℕ) → eqb c e ≡ false
-      → Rule.isStruck ws (coreAt (w .machine) e) ≡ strikes (commits c n) h e
+      → Life.isStruck ws (coreAt (w .machine) e) ≡ strikes (commits c n) h e
   record-strikes e q =
       ap₂ _&&_ (a .each-core e .same-going)
       (meets-crosses (coreAt (w .machine) c) (coreAt (w .machine) e) (view h c) (view h e) (a .each-core c) (a .each-core e))
@@ -55,17 +56,17 @@ module _ {o : ℕ} {w : World} {h : List Deed} (a : Agree o w h) (c : ℕ) (ok :
 
   -- what the commit leaves of core e
   left-at : (e : ℕ) (q : Bool) → eqb c e ≡ q
-      → CoreAgrees (cond q (Rule.over (coreAt (w .machine) e)) (Rule.struck ws (coreAt (w .machine) e)))
+      → CoreAgrees (cond q (Life.over (coreAt (w .machine) e)) (Life.struck ws (coreAt (w .machine) e)))
       (view (commits c n ∷ h) e)
-  unfolding Rule.struck
+  unfolding Life.struck
   left-at e true p =
-      agrees-idle (Rule.over (coreAt (w .machine) e)) (view (commits c n ∷ h) e) refl refl refl refl
+      agrees-idle (Life.over (coreAt (w .machine) e)) (view (commits c n ∷ h) e) refl refl refl refl
       (subst (λ (i : ℕ). Over (view (commits c n ∷ h) i)) (eqb-true c e p) (view-commits h c n))
   left-at e false p =
-      go (Rule.isStruck ws (coreAt (w .machine) e)) (record-strikes e p)
+      go (Life.isStruck ws (coreAt (w .machine) e)) (record-strikes e p)
     where
       go : (q : Bool) → q ≡ strikes (commits c n) h e
-          → CoreAgrees (cond q (Rule.aborted (coreAt (w .machine) e)) (coreAt (w .machine) e)) (view (commits c n ∷ h) e)
+          → CoreAgrees (cond q (Life.aborted (coreAt (w .machine) e)) (coreAt (w .machine) e)) (view (commits c n ∷ h) e)
       go true s =
           rw (view-struck h c n e p (sym s))
           (agrees-struck (coreAt (w .machine) e) (view h e) (struck-unmarked e n (sym s)) (a .each-core e))

@@ -7,17 +7,14 @@ use native.Mathlib.Omega.{arith}
 use lib.Dec.{eqb, leb, ltb}
 use lib.ListN.{getD}
 use borrow.Author.Tests.{ltb-true, ltb-false, leb-true, eqb-true, eqb-false, lt-ltb, le-leb, eq-eqb, ne-eqb, not-true}
-use Rattle.objset.specs.Objset.{has, below}
 use Rattle.objset.proofs.Laws.{each-one, one-each}
-use Rattle.machine.specs.declared.Machine.{Machine}
 use Rattle.core.specs.declared.Core.{Core}
-use Rattle.core.specs.declared.Job.{Job}
-use Rattle.core.specs.Parts.{noJob, jobAt}
+use Rattle.core.proofs.TestLaws.{if-true, true-if, both}
+use Rattle.core.proofs.Tidy.{Tidy, tidy-core, sets-pass, owner-passes, idle-passes, zombie-passes, eight-pass, unused-pass, first-passes}
+use Rattle.machine.specs.declared.Machine.{Machine}
 use Rattle.machine.specs.Record.{coreAt}
-use Rattle.core.specs.Tidy.{_⇒_, emptySets, zeroJob}
 use Rattle.machine.specs.Sound.{inRange, setsWithin, ownerListed, idleClear, zombieEmpty, atMostEight, unusedJobs, lackedCores, lackedObjects, ownerFirst, ticketsDiffer, ticketsGiven, ticketsCounted, versionsBounded, ahead, abortsBounded, sound}
 use Rattle.machine.proofs.Sound.Turns.{Turns}
-use Rattle.core.proofs.TestLaws.{if-true, true-if, both}
 use Rattle.machine.proofs.Sound.Passed.{in-range, Passed, passed, passed-all}
 
 -- the rules that tie the transactions in progress together
@@ -42,35 +39,9 @@ pub record Standing (m : Machine) : Type 0 where
 standing-core : (m : Machine) → Passed m → (c : ℕ) → c < 16 → Tidy (m .objects) (coreAt m c)
 unfolding setsWithin ownerListed idleClear zombieEmpty atMostEight unusedJobs ownerFirst
 standing-core m s c l =
-    record {
-      reads-within = within (k .reads) (m .objects) (sets .0);
-      writes-within = within (k .writes) (m .objects) (sets .1);
-      owner-listed = owner;
-      idle-clear = λ p. is-clear k (if-true (not (k .active)) _ (each-one 16 _ (s .passed-idle-clear) c l) (ap not p));
-      zombie-empty = λ p. empty-sets k (if-true (k .zombie) (emptySets k) (each-one 16 _ (s .passed-zombie-empty) c l) p);
-      at-most-eight = few;
-      unused-jobs = λ p h u.
-          zero-job (jobAt k p)
-          (if-true (leb (k .count) p) (zeroJob (jobAt k p)) (each-one 8 _ (each-one 16 _ (s .passed-unused-jobs) c l) p h)
-          (le-leb (k .count) p u));
-      owner-first = λ a p h.
-          ltb-true (jobAt k (k .owner) .deadline) (jobAt k p .deadline)
-          (if-true (ltb p (k .owner)) (ltb (jobAt k (k .owner) .deadline) (jobAt k p .deadline))
-          (each-one 8 _ (if-true (k .active) _ (each-one 16 _ (s .passed-owner-first) c l) a) p (omega (arith, owner a, few)))
-          (lt-ltb p (k .owner) h));
-    }
-  where
-    k : Core
-    k = coreAt m c
-
-    sets : (below (k .reads) (m .objects) ≡ true) × (below (k .writes) (m .objects) ≡ true)
-    sets = both (below (k .reads) (m .objects)) (below (k .writes) (m .objects)) (each-one 16 _ (s .passed-sets-within) c l)
-
-    owner : k .active ≡ true → k .owner < k .count
-    owner a = ltb-true (k .owner) (k .count) (if-true (k .active) _ (each-one 16 _ (s .passed-owner-listed) c l) a)
-
-    few : k .count ≤ 8
-    few = leb-true (k .count) 8 (each-one 16 _ (s .passed-at-most-eight) c l)
+    tidy-core (m .objects) (coreAt m c) (each-one 16 _ (s .passed-sets-within) c l) (each-one 16 _ (s .passed-owner-listed) c l)
+    (each-one 16 _ (s .passed-idle-clear) c l) (each-one 16 _ (s .passed-zombie-empty) c l) (each-one 16 _ (s .passed-at-most-eight) c l)
+    (each-one 16 _ (s .passed-unused-jobs) c l) (each-one 16 _ (s .passed-owner-first) c l)
 
 lacked-core : (m : Machine) → Passed m → (c : ℕ) → c < 16 → m .cores ≤ c
     → (eqb (coreAt m c .count) 0 ≡ true) × (not (coreAt m c .active) ≡ true)
@@ -141,34 +112,19 @@ is-sound {m} s =
             lt-ltb 0 (m .objects) (s .some-objects),
             le-leb (m .objects) 64 (s .few-objects),
           );
-      passed-sets-within =
-          one-each 16 _
-          (λ c l. rw
-          (is-below (k c .reads) (m .objects) (s .tidy c l .reads-within), is-below (k c .writes) (m .objects) (s .tidy c l .writes-within)));
-      passed-owner-listed =
-          one-each 16 _ (λ c l. true-if (k c .active) _ (λ a. lt-ltb (k c .owner) (k c .count) (s .tidy c l .owner-listed a)));
-      passed-idle-clear =
-          one-each 16 _ (λ c l. true-if (not (k c .active)) _ (λ a. clear-is (k c) (s .tidy c l .idle-clear (not-true (k c .active) a))));
-      passed-zombie-empty =
-          one-each 16 _ (λ c l. true-if (k c .zombie) _ (λ z. rw (s .tidy c l .zombie-empty z .0, s .tidy c l .zombie-empty z .1)));
-      passed-at-most-eight = one-each 16 _ (λ c l. le-leb (k c .count) 8 (s .tidy c l .at-most-eight));
-      passed-unused-jobs =
-          one-each 16 _
-          (λ c l. one-each 8 _
-          (λ p h. true-if (leb (k c .count) p) _ (λ u. ap zeroJob (s .tidy c l .unused-jobs p h (leb-true (k c .count) p u)))));
+      passed-sets-within = one-each 16 _ (λ c l. sets-pass _ _ (s .tidy c l));
+      passed-owner-listed = one-each 16 _ (λ c l. owner-passes _ _ (s .tidy c l));
+      passed-idle-clear = one-each 16 _ (λ c l. idle-passes _ _ (s .tidy c l));
+      passed-zombie-empty = one-each 16 _ (λ c l. zombie-passes _ _ (s .tidy c l));
+      passed-at-most-eight = one-each 16 _ (λ c l. eight-pass _ _ (s .tidy c l));
+      passed-unused-jobs = one-each 16 _ (λ c l. unused-pass _ _ (s .tidy c l));
       passed-lacked-cores =
           one-each 16 _
           (λ c l. true-if (leb (m .cores) c) _
           (λ h. rw (s .lacked-jobs c l (leb-true (m .cores) c h), s .turns .lacked c l (leb-true (m .cores) c h))));
       passed-lacked-objects =
           one-each 64 _ (λ d l. true-if (leb (m .objects) d) _ (λ h. rw (s .lacked-objects d l (leb-true (m .objects) d h))));
-      passed-owner-first =
-          one-each 16 _
-          (λ c l. true-if (k c .active) _
-          (λ a. one-each 8 _
-          (λ p h. true-if (ltb p (k c .owner)) _
-          (λ b. lt-ltb (jobAt (k c) (k c .owner) .deadline) (jobAt (k c) p .deadline)
-          (s .tidy c l .owner-first a p (ltb-true p (k c .owner) b))))));
+      passed-owner-first = one-each 16 _ (λ c l. first-passes _ _ (s .tidy c l));
       passed-tickets-differ =
           one-each 16 _
           (λ c l. one-each c _

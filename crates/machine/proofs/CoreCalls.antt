@@ -1,0 +1,202 @@
+-- What a call gives on the core that it takes out, put back, is what the rule gives. Assumes nothing.
+use mathlib.Core.Path.{_≡_, refl, sym, ap, ap₂, subst, _∙_}
+use mathlib.Core.Bool.{Bool, true, false, cond, _&&_, and-false}
+use mathlib.Core.List.{List, [], _∷_}
+use Prim.Native.Nat.{ℕ, zero, suc, _+_, _*_, _≤_, _<_}
+use native.Mathlib.Omega.{arith}
+use lib.Dec.{ltb}
+use lib.ListN.{getD, set, length, replicate}
+use lib.Seq.{set-getD}
+use borrow.Author.Tests.{ltb-true, ltb-false, lt-ltb, le-ltb}
+use Rattle.core.specs.declared.Core.{Core}
+use Rattle.core.specs.declared.Answer.{Answer}
+use Rattle.core.specs.declared.Answer.the-variants.{Waits, Refused}
+use Rattle.core.specs.declared.calls.Act.{Act}
+use Rattle.core.specs.declared.calls.Act.the-variants as Act
+use Rattle.core.specs.declared.calls.Seen.{Seen}
+use Rattle.core.specs.declared.calls.Acted.{Acted}
+use Rattle.core.specs.Calls as Core
+use Rattle.core.specs.Calls.{first, objectOf, taken, actOn, releaseOn, beginOn, readOn, writeOn, giveUpOn, finishOn}
+use Rattle.core.proofs.CallLaws.{skips, hits}
+use Rattle.machine.specs.declared.Machine.{Machine}
+use Rattle.machine.specs.declared.Outcome.{Outcome}
+use Rattle.machine.specs.declared.inside.calls.Found.{Found}
+use Rattle.machine.specs.Record.{coreAt, putCore}
+use Rattle.machine.specs.Inside.{Fine}
+use Rattle.machine.specs.Refusals.{refusals, at}
+use Rattle.machine.specs.Rule.{World, Result, lent, withMachine, unless, unlessLent, unlent, wrongTables, noSuchCore, noSuchObject, released, release, begun, begin, told, valued, valueRead, read, written, write, slot, accessRefusal, ended, giveUp, finished, finish, rule, Call, coreOf, Release, Begin, Read, Write, GiveUp, Finish}
+use Rattle.machine.specs.OneCore.{callOf, found, seen, given}
+use Rattle.machine.proofs.Facts.{stands}
+use Rattle.machine.proofs.Refusals.{refused-with}
+use Rattle.machine.proofs.CallLaws.{is-sound, a-core, no-core, an-object, no-object, tables-fit}
+
+module _ (w : World) where
+  abbrev m : Machine
+  m = w .machine
+
+  -- what was taken out and put back as it was changes nothing
+  put-same : (c d : ℕ) (a : Answer) → given w c d (Core.left (coreAt m c) (seen w c d) a) ≡ record { answer = a; world = w }
+  put-same c d a =
+      ap₂
+      (λ (cores : List Core) (words : List ℕ).
+      record {
+        answer = a;
+        world =
+            lent
+            (record { cores = m .cores; objects = m .objects; tickets = m .tickets; commits = m .commits; «give_ups» = m .«give_ups»; core = cores; versions = m .versions })
+            (w .committed) words;
+      })
+      (set-getD (m .core) c _) (set-getD (w .pending) _ 0)
+
+  -- the pending word put back as it was
+  put-word : (c d : ℕ) (a : Answer) (n : Machine)
+      → _≡_ {A = Result} (record { answer = a; world = lent n (w .committed) (set (w .pending) (slot m c d) (getD (w .pending) (slot m c d) 0)) })
+      (record { answer = a; world = lent n (w .committed) (w .pending) })
+  put-word c d a n = ap (λ (words : List ℕ). record { answer = a; world = lent n (w .committed) words }) (set-getD (w .pending) _ 0)
+
+  -- refused and accepted alike
+  given-unless : (c d n : ℕ) (r : Acted) (x : Result) → given w c d r ≡ x
+      → given w c d (Core.unless n (coreAt m c) (seen w c d) r) ≡ unlessLent n w x
+  unfolding Core.unless unlessLent
+  given-unless c d zero r x e = e
+  given-unless c d (suc n) r x e = put-same c d (Refused (suc n))
+
+  given-cond : (c d : ℕ) (b : Bool) (p q : Acted) (x y : Result) → given w c d p ≡ x → given w c d q ≡ y → given w c d (cond b p q) ≡ cond b x y
+  given-cond c d true p q x y e f = e
+  given-cond c d false p q x y e f = f
+
+  unlent-unless : (n : ℕ) (o : Outcome) → unlessLent n w (unlent w o) ≡ unlent w (unless n m o)
+  unfolding unless unlessLent
+  unlent-unless zero o = refl
+  unlent-unless (suc n) o = refl
+
+  module _ (f : Fine w) (c : ℕ) (h : c < m .cores) (d : ℕ) where
+    -- a call that is lent no table: past the refusals of the whole record
+    alone : (n r : ℕ) (acted : Acted) (o : Outcome) → r ≡ n → given w c d acted ≡ unlent w o
+        → given w c d (Core.unless n (coreAt m c) (seen w c d) acted) ≡ unlent w (unless r m o)
+    alone n r acted o e same =
+        given-unless c d n acted (unlent w o) same ∙ unlent-unless n o ∙ ap (λ (x : ℕ). unlent w (unless x m o)) (sym e)
+
+    release-given : (number deadline : ℕ) → given w c d (releaseOn (coreAt m c) (seen w c d) number deadline) ≡ rule 0 w (Release c number deadline)
+    unfolding releaseOn rule release released
+    release-given number deadline =
+        alone _ _ _ _ (skips _ _ _ (is-sound m (f .is-sound)) (skips _ _ _ (a-core m c h) refl)) (put-word c d _ _)
+
+    begin-given : given w c d (beginOn (coreAt m c) (seen w c d)) ≡ rule 0 w (Begin c)
+    unfolding beginOn rule begin begun
+    begin-given = alone _ _ _ _ (skips _ _ _ (is-sound m (f .is-sound)) (skips _ _ _ (a-core m c h) refl)) (put-word c d _ _)
+
+    give-up-given : given w c d (giveUpOn (coreAt m c) (seen w c d)) ≡ rule 0 w (GiveUp c)
+    unfolding giveUpOn rule giveUp ended
+    give-up-given = alone _ _ _ _ (skips _ _ _ (is-sound m (f .is-sound)) (skips _ _ _ (a-core m c h) refl)) (put-word c d _ _)
+
+    finish-given : given w c d (finishOn (coreAt m c) (seen w c d)) ≡ rule 0 w (Finish c)
+    unfolding finishOn rule finish finished
+    finish-given = alone _ _ _ _ (skips _ _ _ (is-sound m (f .is-sound)) (skips _ _ _ (a-core m c h) refl)) (put-word c d _ _)
+
+    module _ (l : d < m .objects) where
+      -- a read or a write: past the refusals of the whole record
+      access : (acted : Acted) (x : Result) → given w c d acted ≡ x
+          → given w c d (Core.unless (first ((Core.inactive (coreAt m c), 9) ∷ [])) (coreAt m c) (seen w c d) acted) ≡ unlessLent (accessRefusal w c d) w x
+      unfolding accessRefusal
+      access acted x e =
+          given-unless c d _ acted x e
+          ∙ ap (λ (n : ℕ). unlessLent n w x)
+          (sym (skips _ _ _ (is-sound m (f .is-sound)) (skips _ _ _ (tables-fit w f) (skips _ _ _ (a-core m c h) (skips _ _ _ (an-object m d l) refl)))))
+
+      told-given : given w c d (Core.told (coreAt m c) (seen w c d)) ≡ told w c
+      unfolding told
+      told-given = put-word c d _ _
+
+      read-given : given w c d (readOn (coreAt m c) (seen w c d) d) ≡ rule 0 w (Read c d)
+      unfolding readOn rule read valued valueRead
+      read-given = access _ _ (given-cond c d (coreAt m c .zombie) _ _ _ _ told-given (put-word c d _ _))
+
+      write-given : (v : ℕ) → given w c d (writeOn (coreAt m c) (seen w c d) d v) ≡ rule 0 w (Write c d v)
+      unfolding writeOn rule write written
+      write-given v = access _ _ (given-cond c d (coreAt m c .zombie) _ _ _ _ told-given refl)
+
+  -- ---- each of the six, where the core and the card are found
+
+  found-given : Fine w → (a : Act) (c : ℕ) → c < m .cores → objectOf a < m .objects
+      → given w c (objectOf a) (taken a (coreAt m c) (seen w c (objectOf a))) ≡ rule 0 w (callOf a c)
+  unfolding taken
+  found-given f (Act.Release number deadline) c h l = release-given f c h 0 number deadline
+  found-given f Act.Begin c h l = begin-given f c h 0
+  found-given f (Act.Read d) c h l = read-given f c h d l
+  found-given f (Act.Write d v) c h l = write-given f c h d l v
+  found-given f Act.GiveUp c h l = give-up-given f c h 0
+  found-given f Act.Finish c h l = finish-given f c h 0
+
+  -- ---- and where one of them is not
+
+  core-of : (a : Act) (c : ℕ) → coreOf (callOf a c) ≡ c
+  core-of (Act.Release number deadline) c = refl
+  core-of Act.Begin c = refl
+  core-of (Act.Read d) c = refl
+  core-of (Act.Write d v) c = refl
+  core-of Act.GiveUp c = refl
+  core-of Act.Finish c = refl
+
+  -- 4
+  nowhere : Fine w → (call : Call) → m .cores ≤ coreOf call → record { answer = Refused 4; world = w } ≡ rule 0 w call
+  unfolding refusals
+  nowhere f call h =
+      refused-with 0 w call 3
+      (skips _ _ _ (is-sound m (f .is-sound))
+      (skips _ _ _ (ap (λ (b : Bool). at call false false true true true false false && b) (tables-fit w f) ∙ and-false _)
+      (hits _ _ _ (no-core m (coreOf call) h))))
+
+  -- 5: a call that names a card
+  no-card : Fine w → (a : Act) (c : ℕ) → c < m .cores → m .objects ≤ objectOf a → record { answer = Refused 5; world = w } ≡ rule 0 w (callOf a c)
+  unfolding refusals
+  no-card f (Act.Read d) c h l =
+      refused-with 0 w (Read c d) 4
+      (skips _ _ _ (is-sound m (f .is-sound)) (skips _ _ _ (tables-fit w f) (skips _ _ _ (a-core m c h) (hits _ _ _ (no-object m d l)))))
+  no-card f (Act.Write d v) c h l =
+      refused-with 0 w (Write c d v) 4
+      (skips _ _ _ (is-sound m (f .is-sound)) (skips _ _ _ (tables-fit w f) (skips _ _ _ (a-core m c h) (hits _ _ _ (no-object m d l)))))
+  no-card f (Act.Release number deadline) c h l = absurd (omega (arith, l, stands m (f .is-sound) .some-objects))
+  no-card f Act.Begin c h l = absurd (omega (arith, l, stands m (f .is-sound) .some-objects))
+  no-card f Act.GiveUp c h l = absurd (omega (arith, l, stands m (f .is-sound) .some-objects))
+  no-card f Act.Finish c h l = absurd (omega (arith, l, stands m (f .is-sound) .some-objects))
+
+  -- ---- a call that concerns one core, wherever it is found
+
+  -- what the call gives where it finds its core and its card
+  abbrev pub onFound : Act → Found → Acted
+  onFound a to = actOn (to .refusal) a (coreAt m (to .core)) (seen w (to .core) (to .object))
+
+  pub by-core : Fine w → (a : Act) (c : ℕ) → let to : Found = found c (objectOf a) (m .cores) (m .objects) in
+      given w (to .core) (to .object) (onFound a to) ≡ rule 0 w (callOf a c)
+  unfolding found actOn Core.unless
+  by-core f a c = go (ltb c (m .cores)) refl (ltb (objectOf a) (m .objects)) refl
+    where
+      go : (p : Bool) → ltb c (m .cores) ≡ p → (q : Bool) → ltb (objectOf a) (m .objects) ≡ q
+          → let to : Found = cond p (cond q (record { core = c; object = objectOf a; refusal = 0 }) (record { core = 0; object = 0; refusal = 5 })) (record { core = 0; object = 0; refusal = 4 }) in
+          given w (to .core) (to .object) (onFound a to) ≡ rule 0 w (callOf a c)
+      go true h true l = found-given f a c (ltb-true _ _ h) (ltb-true _ _ l)
+      go true h false l = put-same 0 0 (Refused 5) ∙ no-card f a c (ltb-true _ _ h) (ltb-false _ _ l)
+      go false h q l =
+          put-same 0 0 (Refused 4)
+          ∙ nowhere f (callOf a c) (subst (λ (x : ℕ). m .cores ≤ x) (sym (core-of a c)) (ltb-false _ _ h))
+
+-- ---- the places found are places of the machine
+
+-- what holds of the places that every machine has, and of those asked for where the machine has them, holds of those found
+found-either : (P : Found → Type 0) (c d cores objects : ℕ) → (c < cores → d < objects → P (record { core = c; object = d; refusal = 0 }))
+    → P (record { core = 0; object = 0; refusal = 5 }) → P (record { core = 0; object = 0; refusal = 4 }) → P (found c d cores objects)
+unfolding found
+found-either P c d cores objects here five four = go (ltb c cores) refl (ltb d objects) refl
+  where
+    go : (p : Bool) → ltb c cores ≡ p → (q : Bool) → ltb d objects ≡ q
+        → P (cond p (cond q (record { core = c; object = d; refusal = 0 }) (record { core = 0; object = 0; refusal = 5 })) (record { core = 0; object = 0; refusal = 4 }))
+    go true h true l = here (ltb-true c cores h) (ltb-true d objects l)
+    go true h false l = five
+    go false h q l = four
+
+pub found-core : (c d cores objects : ℕ) → 0 < cores → found c d cores objects .core < cores
+found-core c d cores objects some = found-either (λ to. to .core < cores) c d cores objects (λ h l. h) some some
+
+pub found-object : (c d cores objects : ℕ) → 0 < objects → found c d cores objects .object < objects
+found-object c d cores objects some = found-either (λ to. to .object < objects) c d cores objects (λ h l. l) some some
