@@ -3,14 +3,17 @@ use mathlib.Core.Path.{_≡_, refl, sym, ap, _∙_}
 use mathlib.Core.Bool.{Bool, true, false, cond}
 use mathlib.Core.List.{List, [], _∷_}
 use Prim.Native.Nat.{ℕ, zero, suc}
+use lib.Dec.{ltb}
 use borrow.Author.Tests.{ne-eqb}
 use Rattle.core.specs.declared.Core.{Core}
-use Rattle.core.specs.declared.Answer.the-variants.{Finished, Refused}
+use Rattle.core.specs.declared.Answer.the-variants.{Waits, SetBack, Finished, Refused}
 use Rattle.core.specs.declared.calls.Seen.{Seen}
+use Rattle.core.specs.declared.Answer.{Answer}
 use Rattle.core.specs.declared.calls.Acted.{Acted}
+use Rattle.core.specs.declared.calls.Settled.{Settled}
 use Rattle.core.specs.Parts.{jobAt, running}
-use Rattle.core.specs.Life.{withoutJob}
-use Rattle.core.specs.Calls.{first, left, unless, finishOn, stays, commitOn}
+use Rattle.core.specs.Life.{withoutJob, unmarked}
+use Rattle.core.specs.Calls.{first, left, unless, finishOn, stays, passes, commitOn}
 
 -- ---- the first condition that holds
 
@@ -54,3 +57,17 @@ pub known-settled : (n : ℕ) (k : Core) (e : ℕ) → (n ≡ 0 → ⊥) → sta
 unfolding commitOn
 known-settled zero k e h = absurd (h refl)
 known-settled (suc n) k e h = refl
+
+-- what a commit leaves on its own core: it stays, it was told, or it goes through, and then it was in progress
+pub settled-either : (P : Settled → Type 0) (n : ℕ) (k : Core) (e : ℕ) → ((a : Answer) → P (stays k a)) → P (stays (unmarked k) SetBack)
+    → (k .active ≡ true → P (passes k)) → P (commitOn n k e)
+unfolding commitOn
+settled-either P (suc n) k e same told through = same (Refused (suc n))
+settled-either P zero k e same told through = go (k .active) refl (k .zombie) (ltb e 16)
+  where
+    go : (a : Bool) → k .active ≡ a → (z q : Bool)
+        → P (cond a (cond z (stays (unmarked k) SetBack) (cond q (stays k (Waits e)) (passes k))) (stays k (Refused 9)))
+    go true on true q = told
+    go true on false true = same (Waits e)
+    go true on false false = through on
+    go false off z q = same (Refused 9)

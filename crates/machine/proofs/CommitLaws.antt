@@ -1,6 +1,6 @@
 -- The laws of commit, over plain variables: where its loop over the objects stands, who is ahead, and what it gives. Assumes nothing.
 use mathlib.Core.Path.{_≡_, refl, sym, ap, ap₂, subst, _∙_}
-use mathlib.Core.Bool.{Bool, true, false, cond, not, _&&_, _||_}
+use mathlib.Core.Bool.{Bool, true, false, cond, not, _&&_, _||_, true≢false}
 use mathlib.Core.List.{List}
 use Prim.Native.Nat.{ℕ, zero, suc, _+_, _*_, _≤_, _<_}
 use native.Mathlib.Nat.{mul-le-mul-right, suc-mul}
@@ -10,15 +10,16 @@ use lib.ListN.{length, getD, set}
 use lib.Seq.{set-getD}
 use borrow.Author.Tests.{ltb-true, ltb-false, eq-eqb, ne-eqb}
 use Rattle.objset.specs.Objset.{has, some}
+use Rattle.objset.proofs.Digits.{has-zero}
 use Rattle.objset.proofs.Laws.{one-some}
 use Rattle.core.specs.declared.Core.{Core}
 use Rattle.core.specs.declared.Answer.{Answer}
 use Rattle.core.specs.declared.Answer.the-variants.{Refused, Waits, SetBack}
 use Rattle.core.specs.declared.calls.Settled.{Settled}
 use Rattle.core.specs.Parts.{noCore}
-use Rattle.core.specs.Life.{unmarked}
+use Rattle.core.specs.Life.{unmarked, over}
 use Rattle.core.specs.Calls.{stays, passes, commitOn}
-use Rattle.core.proofs.CallLaws.{skips, hits, none-holds}
+use Rattle.core.proofs.CallLaws.{skips, hits, none-holds, settled-either}
 use Rattle.machine.specs.declared.Machine.{Machine}
 use Rattle.machine.specs.declared.inside.calls.Found.{Found}
 use Rattle.machine.specs.Record.{coreAt, putCore}
@@ -27,29 +28,35 @@ use Rattle.machine.specs.Answers.{kind, named}
 use Rattle.machine.specs.Inside.{Fine}
 use Rattle.machine.specs.Rule.{World, Result, withMachine, unlessLent, wrongTables, told, contender, blocked, changed, moved, through, waiting, commitRefusal, commit}
 use Rattle.machine.specs.OneCore.{found, firstHolding, strikes, settled}
-use Rattle.machine.proofs.Entries.{changed-at, changed-long}
+use Rattle.machine.proofs.Entries.{put-each, changed-at, changed-long}
 use Rattle.machine.proofs.Facts.{stands, core-place, one-open}
 use Rattle.machine.proofs.CallLaws.{is-sound, a-core, no-core, refused-lent, accepted-lent}
 use Rattle.machine.proofs.CoreLists.{holding-holds, holding-none, strikes-none, changed-none, strikes-cleared}
-use Rattle.machine.proofs.Front.{Stands, stands-next, stands-stored, stands-kept, stands-all}
+use Rattle.machine.proofs.Front.{Stands, stands-next, stands-stored, stands-kept, stands-past, stands-all}
 
 -- ---- the loops over the objects of the write set
 
 module _ (ws : ℕ) (f : ℕ → ℕ → ℕ) (old : List ℕ) where
-  module _ (d : ℕ) (now : List ℕ) (at : Stands d (changed ws f 0 old) old now) (l : d < length old) where
+  module _ (d : ℕ) (now : List ℕ) (at : Stands d (changed ws f 0 old) old now) where
     -- the entry whose turn it is is as it was
-    pub changed-next : getD now d 0 ≡ getD old d 0
-    changed-next = stands-next (changed ws f 0 old) old (changed-long ws f 0 old) d now 0 at l
+    pub changed-next : d < length old → getD now d 0 ≡ getD old d 0
+    changed-next l = stands-next (changed ws f 0 old) old (changed-long ws f 0 old) d now 0 at l
 
-    pub changed-stored : (next : List ℕ) → has ws d ≡ true → next ≡ set now d (f d (getD now d 0))
+    pub changed-stored : (next : List ℕ) → d < length old → has ws d ≡ true → next ≡ set now d (f d (getD now d 0))
         → Stands (d + 1) (changed ws f 0 old) old next
-    changed-stored next p =
+    changed-stored next l p =
         stands-stored (changed ws f 0 old) old (changed-long ws f 0 old) d now next 0 _ at l
-        (ap (f d) changed-next ∙ sym (changed-at ws f old d l ∙ rw p refl))
+        (ap (f d) (changed-next l) ∙ sym (changed-at ws f old d l ∙ rw p refl))
 
+    -- an object that is not in the set, also one past the list
     pub changed-kept : (next : List ℕ) → has ws d ≡ false → next ≡ now → Stands (d + 1) (changed ws f 0 old) old next
-    changed-kept next p =
-        stands-kept (changed ws f 0 old) old (changed-long ws f 0 old) d now next 0 at l (sym (changed-at ws f old d l ∙ rw p refl))
+    changed-kept next p e = go (ltb d (length old)) refl
+      where
+        go : (q : Bool) → ltb d (length old) ≡ q → Stands (d + 1) (changed ws f 0 old) old next
+        go true t =
+            let l = ltb-true d (length old) t in
+            stands-kept (changed ws f 0 old) old (changed-long ws f 0 old) d now next 0 at l (sym (changed-at ws f old d l ∙ rw p refl)) e
+        go false t = stands-past (changed ws f 0 old) old (changed-long ws f 0 old) d now next at (ltb-false d (length old) t) e
 
   -- the write set lies within the first n objects
   pub changed-done : (n : ℕ) (now : List ℕ) → Stands n (changed ws f 0 old) old now
@@ -97,19 +104,46 @@ module _ (m : Machine) (s : sound m ≡ true) where
       go true on = omega (arith, stands m s .turns .bounded e l on, stands m s .few-cores)
       go false off = omega (arith, stands m s .tidy e l .idle-clear off .no-aborts)
 
-  -- what raising the versions of core c's write set asks, where n is the number of objects: the set lies within the first n, and
-  -- a version is at most the commits, which are fewer than the tickets while a transaction is in progress
-  pub versions-ready : (c n : ℕ) → c < m .cores → coreAt m c .active ≡ true → n ≡ m .objects → length (m .versions) ≡ 64 → m .tickets ≤ 4294967295
-      → (n ≤ length (m .versions))
-      × (((d : ℕ) → d < length (m .versions) → has (coreAt m c .writes) d ≡ true → d < n)
-      × ((d : ℕ) → d < n → getD (m .versions) d 0 < 4294967295))
-  versions-ready c n h on all long fit = (
-    omega (arith, stands m s .few-objects),
-    (
-      λ d l p. omega (arith, stands m s .tidy c (core-place m s c h) .writes-within d (omega arith) p),
-      λ d l. omega (arith, stands m s .versions-bounded d (omega (arith, stands m s .few-objects)), one-open m s c h on),
-    ),
-  )
+  -- what a commit of core c asks to be carried out: the write set that it commits lies within the cards; a version is at most the
+  -- commits, which are fewer than the tickets while a transaction is in progress; and so are the setbacks of each core
+  pub record Ready (c : ℕ) (r : Settled) : Type 0 where
+    pub within : (d : ℕ) → d < 64 → has (r .writes) d ≡ true → d < m .objects
+    pub raised : (d : ℕ) → d < m .objects → has (r .writes) d ≡ true → getD (m .versions) d 0 < 4294967295
+    pub counted : m .commits + r .commits ≤ 4294967295
+    pub strikable : (e : ℕ) → e < 16 → getD (set (m .core) c (r .core)) e noCore .aborts < 255
+
+  pub ready : (c n e : ℕ) → c < m .cores → length (m .core) ≡ 16 → m .tickets ≤ 4294967295 → Ready c (commitOn n (coreAt m c) e)
+  ready c n e h long fit =
+      settled-either (Ready c) n k e (λ a. idly (stays k a) refl refl (kept k (few-aborts c place)))
+      (idly (stays (unmarked k) SetBack) refl refl (kept (unmarked k) (few-aborts c place)))
+      (λ on.
+      record {
+        within = λ d l p. stands m s .tidy c place .writes-within d l p;
+        raised = λ d l p. omega (arith, stands m s .versions-bounded d (omega (arith, stands m s .few-objects)), one-open m s c h on);
+        counted = omega (arith, one-open m s c h on);
+        strikable = kept (over k) (omega arith);
+      })
+    where
+      k : Core
+      k = coreAt m c
+
+      place : c < 16
+      place = core-place m s c h
+
+      kept : (x : Core) → x .aborts < 255 → (e : ℕ) → e < 16 → getD (set (m .core) c x) e noCore .aborts < 255
+      kept x few = put-each (λ e y. y .aborts < 255) (m .core) 16 c x (omega (arith, long, place)) few few-aborts
+
+      nothing : (r : Settled) → r .writes ≡ 0 → (d : ℕ) → has (r .writes) d ≡ true → ⊥
+      nothing r w d p = true≢false (sym p ∙ ap (λ (x : ℕ). has x d) w ∙ has-zero d)
+
+      idly : (r : Settled) → r .writes ≡ 0 → r .commits ≡ 0 → ((e : ℕ) → e < 16 → getD (set (m .core) c (r .core)) e noCore .aborts < 255) → Ready c r
+      idly r w n few =
+          record {
+            within = λ d l p. absurd (nothing r w d p);
+            raised = λ d l p. absurd (nothing r w d p);
+            counted = omega (arith, n, stands m s .turns .counted, fit);
+            strikable = few;
+          }
 
 -- the words of the pending table for core c lie within it
 pub row-within : (c cores objects : ℕ) → c < cores → c * objects + objects ≤ cores * objects
@@ -257,3 +291,14 @@ module _ (w : World) where
         go false h q l =
             (settle-same 0 (Refused 4) ∙ commit-no-core w c (f .is-sound) (f .committed-long) (f .pending-long) _ (ltb-false _ _ h),
             kinds-differ _ 11 (unfold kind in refl) (λ x. omega arith))
+
+    -- the same, of what code found and got
+    pub by-commit-at : (to : Found) (e : ℕ) (r : Settled) → to ≡ found c 0 (m .cores) (m .objects)
+        → e ≡ firstHolding (m .core) (coreAt m (to .core)) → r ≡ commitOn (to .refusal) (coreAt m (to .core)) e
+        → (settled w (to .core) r ≡ commit (named (r .answer)) w c) × ((e : ℕ) → r .answer ≡ Waits e → contender m c e ≡ true)
+    by-commit-at to e r p q h =
+        subst (λ (x : Settled). (settled w (to .core) x ≡ commit (named (x .answer)) w c) × ((e : ℕ) → x .answer ≡ Waits e → contender m c e ≡ true))
+        (sym (h ∙ ap (commitOn (to .refusal) (coreAt m (to .core))) q))
+        (subst
+        (λ (x : Found). (settled w (x .core) (settledAt x) ≡ commit (named (settledAt x .answer)) w c) × ((e : ℕ) → settledAt x .answer ≡ Waits e → contender m c e ≡ true))
+        (sym p) by-commit)

@@ -3,6 +3,7 @@ use mathlib.Core.Path.{_≡_, refl, sym, ap, ap₂, subst, _∙_}
 use mathlib.Core.Bool.{Bool, true, false, cond, _&&_, and-false}
 use mathlib.Core.List.{List, [], _∷_}
 use Prim.Native.Nat.{ℕ, zero, suc, _+_, _*_, _≤_, _<_}
+use native.Mathlib.Nat.{mul-le-mul}
 use native.Mathlib.Omega.{arith}
 use lib.Dec.{ltb}
 use lib.ListN.{getD, set, length, replicate}
@@ -16,17 +17,19 @@ use Rattle.core.specs.declared.calls.Act.the-variants as Act
 use Rattle.core.specs.declared.calls.Seen.{Seen}
 use Rattle.core.specs.declared.calls.Acted.{Acted}
 use Rattle.core.specs.Calls as Core
-use Rattle.core.specs.Calls.{first, objectOf, taken, actOn, releaseOn, beginOn, readOn, writeOn, giveUpOn, finishOn}
+use Rattle.core.specs.Calls.{first, objectOf, Fits, taken, actOn, releaseOn, beginOn, readOn, writeOn, giveUpOn, finishOn}
 use Rattle.core.proofs.CallLaws.{skips, hits}
 use Rattle.machine.specs.declared.Machine.{Machine}
 use Rattle.machine.specs.declared.Outcome.{Outcome}
 use Rattle.machine.specs.declared.inside.calls.Found.{Found}
 use Rattle.machine.specs.Record.{coreAt, putCore}
+use Rattle.machine.specs.Sound.{sound}
 use Rattle.machine.specs.Inside.{Fine}
 use Rattle.machine.specs.Refusals.{refusals, at}
 use Rattle.machine.specs.Rule.{World, Result, lent, withMachine, unless, unlessLent, unlent, wrongTables, noSuchCore, noSuchObject, released, release, begun, begin, told, valued, valueRead, read, written, write, slot, accessRefusal, ended, giveUp, finished, finish, rule, Call, coreOf, Release, Begin, Read, Write, GiveUp, Finish}
 use Rattle.machine.specs.OneCore.{callOf, found, seen, given}
-use Rattle.machine.proofs.Facts.{stands}
+use Rattle.machine.proofs.Facts.{stands, core-place, object-place, few-jobs, one-open}
+use Rattle.machine.proofs.Run.Places.{slot-inside}
 use Rattle.machine.proofs.Refusals.{refused-with}
 use Rattle.machine.proofs.CallLaws.{is-sound, a-core, no-core, an-object, no-object, tables-fit}
 
@@ -144,7 +147,7 @@ module _ (w : World) where
   nowhere f call h =
       refused-with 0 w call 3
       (skips _ _ _ (is-sound m (f .is-sound))
-      (skips _ _ _ (ap (λ (b : Bool). at call false false true true true false false && b) (tables-fit w f) ∙ and-false _)
+      (skips _ _ _ (ap (λ (b : Bool). at call false false true true true false false && b) (tables-fit w f) ∙ and-false (at call false false true true true false false))
       (hits _ _ _ (no-core m (coreOf call) h))))
 
   -- 5: a call that names a card
@@ -181,6 +184,15 @@ module _ (w : World) where
           put-same 0 0 (Refused 4)
           ∙ nowhere f (callOf a c) (subst (λ (x : ℕ). m .cores ≤ x) (sym (core-of a c)) (ltb-false _ _ h))
 
+  -- the same, of what code found, saw and got
+  pub by-core-at : Fine w → (a : Act) (c d : ℕ) (to : Found) (s : Seen) (r : Acted) → d ≡ objectOf a → to ≡ found c d (m .cores) (m .objects)
+      → s ≡ seen w (to .core) (to .object) → r ≡ actOn (to .refusal) a (coreAt m (to .core)) s
+      → given w (to .core) (to .object) r ≡ rule 0 w (callOf a c)
+  by-core-at f a c d to s r p q e h =
+      ap (given w (to .core) (to .object)) (h ∙ ap (actOn (to .refusal) a (coreAt m (to .core))) e)
+      ∙ subst (λ (x : Found). given w (x .core) (x .object) (onFound a x) ≡ rule 0 w (callOf a c))
+      (sym (q ∙ ap (λ (n : ℕ). found c n (m .cores) (m .objects)) p)) (by-core f a c)
+
 -- ---- the places found are places of the machine
 
 -- what holds of the places that every machine has, and of those asked for where the machine has them, holds of those found
@@ -200,3 +212,31 @@ found-core c d cores objects some = found-either (λ to. to .core < cores) c d c
 
 pub found-object : (c d cores objects : ℕ) → 0 < objects → found c d cores objects .object < objects
 found-object c d cores objects some = found-either (λ to. to .object < objects) c d cores objects (λ h l. l) some some
+
+-- a sound machine has a place for the core and the card found, and a word of the pending table
+module _ (m : Machine) (s : sound m ≡ true) (c d : ℕ) (to : Found) (e : to ≡ found c d (m .cores) (m .objects)) where
+  pub to-core : to .core < m .cores
+  to-core = subst (λ (x : Found). x .core < m .cores) (sym e) (found-core c d (m .cores) (m .objects) (stands m s .some-cores))
+
+  pub to-object : to .object < m .objects
+  to-object = subst (λ (x : Found). x .object < m .objects) (sym e) (found-object c d (m .cores) (m .objects) (stands m s .some-objects))
+
+  pub core-there : to .core < 16
+  core-there = core-place m s (to .core) to-core
+
+  pub object-there : to .object < 64
+  object-there = object-place m s (to .object) to-object
+
+  pub to-slot : to .core * m .objects + to .object < m .cores * m .objects
+  to-slot = slot-inside (m .cores) (m .objects) (to .core) (to .object) to-core to-object
+
+  pub few-words : m .cores * m .objects ≤ 1024
+  few-words = omega (arith, mul-le-mul (stands m s .few-cores) (stands m s .few-objects))
+
+  -- what the call on that core asks
+  pub to-fits : (seen : Seen) → seen .«give_ups» ≡ m .«give_ups» → m .tickets ≤ 4294967295 → Fits (coreAt m (to .core)) seen
+  to-fits seen same fit =
+      record {
+        few-jobs = few-jobs m s (to .core) to-core;
+        one-more = λ on. omega (arith, same, one-open m s (to .core) to-core on);
+      }

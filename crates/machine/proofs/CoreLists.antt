@@ -6,7 +6,7 @@ use Prim.Native.Nat.{ℕ, zero, suc, _+_, _-_, _≤_, _<_}
 use native.Mathlib.Omega.{arith}
 use lib.Dec.{eqb}
 use lib.ListN.{getD, set, length, drop}
-use lib.Seq.{drop-cons, set-getD}
+use lib.Seq.{drop-cons, drop-length}
 use borrow.Author.Tests.{eq-eqb, ne-eqb}
 use Rattle.objset.specs.Objset.{has, meeting}
 use Rattle.objset.proofs.Digits.{has-zero}
@@ -21,9 +21,10 @@ use Rattle.machine.proofs.Front.{Stands, stands-next, stands-stored, st
 
 -- ---- the first that holds a transaction back
 
-pub none-holding : (i : ℕ) (k : Core) → _≡_ {A = ℕ} 16 (firstFrom [] i k)
+-- past the last there is none
+pub none-holding : (cores : List Core) (k : Core) → length cores ≡ 16 → 16 ≡ firstFrom (drop 16 cores) 16 k
 unfolding firstFrom
-none-holding i k = refl
+none-holding cores k long = rw (sym (ap (λ (n : ℕ). drop n cores) long) ∙ drop-length cores) refl
 
 -- one core more in front, which holds it back or does not
 pub holding-here : (cores : List Core) (i : ℕ) (k : Core) → i < length cores → holdsBack (getD cores i noCore) k ≡ true
@@ -31,10 +32,11 @@ pub holding-here : (cores : List Core) (i : ℕ) (k : Core) → i < length cores
 unfolding firstFrom
 holding-here cores i k l h = rw (drop-cons cores i noCore l, h) refl
 
-pub holding-later : (cores : List Core) (i : ℕ) (k : Core) → i < length cores → holdsBack (getD cores i noCore) k ≡ false
-    → firstFrom (drop (suc i) cores) (suc i) k ≡ firstFrom (drop i cores) i k
+pub holding-later : (cores : List Core) (i j : ℕ) (k : Core) → j ≡ suc i → i < length cores → holdsBack (getD cores i noCore) k ≡ false
+    → firstFrom (drop j cores) j k ≡ firstFrom (drop i cores) i k
 unfolding firstFrom
-holding-later cores i k l h = rw (drop-cons cores i noCore l, h) refl
+holding-later cores i j k e l h =
+    ap (λ (n : ℕ). firstFrom (drop n cores) n k) e ∙ rw (drop-cons cores i noCore l, h) refl
 
 module _ (k : Core) where
   -- a number below 16 is a core that does

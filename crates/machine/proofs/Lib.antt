@@ -5,7 +5,9 @@ mod DoorLaws
 pub mod CoreCalls
 pub mod CoreLists
 mod Facts
+pub mod Typed
 mod Front
+mod SetLoop
 pub mod CommitLaws
 mod SoundLaws
 pub mod Refusals

@@ -66,10 +66,8 @@ pub fn alone(mut m: Machine, core: u32, a: Act) -> Outcome
     m.core[c] = after;
     m.tickets = done.tickets;
     m.give_ups = done.give_ups;
-    Outcome {
-        answer: done.answer,
-        machine: m,
-    }
+    let answer = done.answer;
+    Outcome { answer, machine: m }
 }
 
 // A call that is lent the tables: read, write.
@@ -101,8 +99,6 @@ pub fn access(
     m.tickets = done.tickets;
     m.give_ups = done.give_ups;
     pending[at] = done.pending;
-    Outcome {
-        answer: done.answer,
-        machine: m,
-    }
+    let answer = done.answer;
+    Outcome { answer, machine: m }
 }

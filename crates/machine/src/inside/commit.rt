@@ -47,7 +47,7 @@ pub fn write_back(
     versions: &mut [u32; 64],
 )
     requires { ⌜ base + length (now committed) ≤ length (now pending) ⌝ }
-    requires { ⌜ length (now committed) ≤ 64 ⌝ }
+    requires { ⌜ length (now versions) ≡ 64 ⌝ }
     requires { ⌜ ((d : ℕ) → d < 64 → has ws d ≡ true → d < length (now committed)) ⌝ }
     requires { ⌜ ((d : ℕ) → d < length (now committed) → has ws d ≡ true → getD (now versions) d 0 < 4294967295) ⌝ }
     ensures values { λ r. ⌜ now (committed .exit) ≡ changed ws (λ d v. getD (now (pending .entry)) (base + d) 0) 0 (now (committed .entry)) ⌝ }
@@ -106,8 +106,6 @@ pub fn commit(mut m: Machine, core: u32, committed: &mut [u32], pending: &mut [u
     );
     let cores = m.core;
     m.core = strike(cores, done.writes);
-    Outcome {
-        answer: done.answer,
-        machine: m,
-    }
+    let answer = done.answer;
+    Outcome { answer, machine: m }
 }

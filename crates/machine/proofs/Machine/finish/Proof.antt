@@ -19,12 +19,12 @@ returns c =
     told (smallest-given 0 (lent _ [] []) (Finish _))
     (ap handed (unsound-refused 0 (lent _ [] []) (Finish _) (breaks (c .before .is-sound .ensures) (c .if1 .taken))))
 
-finish-requires : tie.Need-finish-requires
-finish-requires c κs = holds (c .before .is-sound .ensures) (c .if1 .left)
+alone-requires : tie.Need-alone-requires
+alone-requires c κs = holds (c .before .is-sound .ensures) (c .if1 .left)
 
 returns-2 : tie.Need-returns-2
 unfolding rule
-returns-2 c = told (smallest-given 0 (lent _ [] []) (Finish _)) (c .finish .ensures)
+returns-2 c = told (smallest-given 0 (lent _ [] []) (Finish _)) (c .alone .ensures)
 
 pub finish-spec : {M : Type 1} → statement M
-finish-spec = tie.close (tie.spec is-sound-requires returns finish-requires returns-2)
+finish-spec = tie.close (tie.spec is-sound-requires returns alone-requires returns-2)

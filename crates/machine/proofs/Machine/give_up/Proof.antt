@@ -19,12 +19,12 @@ returns c =
     told (smallest-given 0 (lent _ [] []) (GiveUp _))
     (ap handed (unsound-refused 0 (lent _ [] []) (GiveUp _) (breaks (c .before .is-sound .ensures) (c .if1 .taken))))
 
-give-up-requires : tie.Need-give-up-requires
-give-up-requires c κs = holds (c .before .is-sound .ensures) (c .if1 .left)
+alone-requires : tie.Need-alone-requires
+alone-requires c κs = holds (c .before .is-sound .ensures) (c .if1 .left)
 
 returns-2 : tie.Need-returns-2
 unfolding rule
-returns-2 c = told (smallest-given 0 (lent _ [] []) (GiveUp _)) (c .give-up .ensures)
+returns-2 c = told (smallest-given 0 (lent _ [] []) (GiveUp _)) (c .alone .ensures)
 
 pub give-up-spec : {M : Type 1} → statement M
-give-up-spec = tie.close (tie.spec is-sound-requires returns give-up-requires returns-2)
+give-up-spec = tie.close (tie.spec is-sound-requires returns alone-requires returns-2)

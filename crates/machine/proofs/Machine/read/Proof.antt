@@ -28,8 +28,8 @@ returns-2 c =
     lent-told (smallest-given 0 _ (Read _ _))
     (misfit-refused 0 _ (Read _ _) refl (holds (else1 .before .is-sound .ensures) (else1 .if1 .left)) (breaks (fit .tables-fit .ensures) (c .if2 .taken)))
 
-read-requires : tie.Need-read-requires
-read-requires c κs =
+access-requires : tie.Need-access-requires
+access-requires c κs =
     let else2 = c .before .before in
     let fit = else2 .before in
     let else1 = fit .before in
@@ -43,9 +43,9 @@ same-length-2 c = search needs
 
 returns-3 : tie.Need-returns-3
 unfolding rule
-returns-3 c = lent-told (smallest-given 0 _ (Read _ _)) (c .read .ensures)
+returns-3 c = lent-told (smallest-given 0 _ (Read _ _)) (c .before .before .access .ensures)
 
 pub read-spec : {M : Type 1} → statement M
 read-spec =
     tie.close
-    (tie.spec is-sound-requires returns tables-fit-requires returns-2 read-requires same-length same-length-2 returns-3)
+    (tie.spec is-sound-requires returns tables-fit-requires returns-2 access-requires same-length same-length-2 returns-3)

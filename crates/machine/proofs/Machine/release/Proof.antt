@@ -19,12 +19,12 @@ returns c =
     told (smallest-given 0 (lent _ [] []) (Release _ _ _))
     (ap handed (unsound-refused 0 (lent _ [] []) (Release _ _ _) (breaks (c .before .is-sound .ensures) (c .if1 .taken))))
 
-release-requires : tie.Need-release-requires
-release-requires c κs = holds (c .before .is-sound .ensures) (c .if1 .left)
+alone-requires : tie.Need-alone-requires
+alone-requires c κs = holds (c .before .is-sound .ensures) (c .if1 .left)
 
 returns-2 : tie.Need-returns-2
 unfolding rule
-returns-2 c = told (smallest-given 0 (lent _ [] []) (Release _ _ _)) (c .release .ensures)
+returns-2 c = told (smallest-given 0 (lent _ [] []) (Release _ _ _)) (c .alone .ensures)
 
 pub release-spec : {M : Type 1} → statement M
-release-spec = tie.close (tie.spec is-sound-requires returns release-requires returns-2)
+release-spec = tie.close (tie.spec is-sound-requires returns alone-requires returns-2)

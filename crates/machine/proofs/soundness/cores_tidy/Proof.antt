@@ -25,13 +25,13 @@ mul-k c = search needs
 element-copy-out-k : tie.Need-element-copy-out-k Inv-loop μ-loop
 element-copy-out-k c = search needs
 
-core-tidy-requires : tie.Need-core-tidy-requires Inv-loop μ-loop
-core-tidy-requires c κs = search needs
+is-tidy-requires : tie.Need-is-tidy-requires Inv-loop μ-loop
+is-tidy-requires c κs = search needs
 
 returns : tie.Need-returns Inv-loop μ-loop
 returns c =
     let l = c .before .before .before .before in
-    tidy-fails (l .before .args .t1) (l .loop .c) (c .before .before .before .loop-test .taken) (rw (breaks (c .before .core-tidy .ensures) (c .if1 .taken)))
+    tidy-fails (l .before .args .t1) (l .loop .c) (c .before .before .before .loop-test .taken) (rw (breaks (c .before .is-tidy .ensures) (c .if1 .taken)))
 
 lacked-blank-requires : tie.Need-lacked-blank-requires Inv-loop μ-loop
 lacked-blank-requires c κs = search needs
@@ -40,7 +40,7 @@ returns-2 : tie.Need-returns-2 Inv-loop μ-loop
 returns-2 c =
     let t = c .before .before .before in
     tidy-fails _ _ (t .before .before .loop-test .taken)
-    (ap₂ _&&_ (holds (t .core-tidy .ensures) (c .before .before .if1 .left)) (breaks (c .before .lacked-blank .ensures) (c .if2 .taken)))
+    (ap₂ _&&_ (holds (t .is-tidy .ensures) (c .before .before .if1 .left)) (breaks (c .before .lacked-blank .ensures) (c .if2 .taken)))
 
 add-c : tie.Need-add-c Inv-loop μ-loop
 add-c c = search needs
@@ -53,7 +53,7 @@ loop-again c =
     let t = c .before .before .before in (
       omega arith,
       each-more _ _ (t .before .before .before .loop .inv .1)
-          (ap₂ _&&_ (holds (t .core-tidy .ensures) (c .before .before .if1 .left)) (holds (c .before .lacked-blank .ensures) (c .if2 .left))),
+          (ap₂ _&&_ (holds (t .is-tidy .ensures) (c .before .before .if1 .left)) (holds (c .before .lacked-blank .ensures) (c .if2 .left))),
     )
 
 returns-3 : tie.Need-returns-3 Inv-loop μ-loop
@@ -68,7 +68,7 @@ cores-tidy-spec =
     loop-holds
     mul-k
     element-copy-out-k
-    core-tidy-requires
+    is-tidy-requires
     returns
     lacked-blank-requires
     returns-2
