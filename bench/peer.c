@@ -373,27 +373,28 @@ static bool take_names(const uint8_t *at) {
   return true;
 }
 
-// The line from `at` to `end` with its fields in the usual order; an empty one if it has not four fields or is too long.
-static const uint8_t *in_usual_order(const uint8_t *at, const uint8_t *end) {
-  static uint8_t line[LINE_MOST + 1 + SLACK];
+// A line in the usual order: the four fields, and what a copy of FIELD_MOST bytes of the last one may add.
+enum { FIELD_MOST = 16, USUAL_MOST = NAMES * (FIELD_MOST + 1) + SLACK };
+
+// Puts the fields of a line in the usual order and returns the place after it; or NULL, with an empty line, where they are not four
+// or one is longer than any word or number.
+static const uint8_t *in_usual_order(const uint8_t *at, uint8_t line[USUAL_MOST]) {
   const uint8_t *field[NAMES];
   size_t length[NAMES];
   line[0] = '\n';
-  if (end - at > LINE_MOST + 1) return line;
   for (int place = 0; place < NAMES; place++) {
     const uint8_t *start = at;
-    while (*at != ' ' && *at != '\n') at++;
+    while (*at > ' ') at++;
     field[script.name[place]] = start;
     length[script.name[place]] = (size_t)(at - start);
-    if (*at++ != (place < NAMES - 1 ? ' ' : '\n')) return line;
+    if (at - start > FIELD_MOST || *at++ != (place < NAMES - 1 ? ' ' : '\n')) return NULL;
   }
-  uint8_t *to = line;
   for (int name = 0; name < NAMES; name++) {
-    memcpy(to, field[name], length[name]);
-    to += length[name];
-    *to++ = name < VALUE ? ' ' : '\n';
+    memcpy(line, field[name], FIELD_MOST);
+    line += length[name];
+    *line++ = name < VALUE ? ' ' : '\n';
   }
-  return line;
+  return at;
 }
 
 INLINE const uint8_t *after_line(const uint8_t *at, const uint8_t *end) {
@@ -403,13 +404,14 @@ INLINE const uint8_t *after_line(const uint8_t *at, const uint8_t *end) {
 // Runs the lines after the names line that stand from `at` to `end`.
 INLINE uint8_t *run(const uint8_t *at, const uint8_t *end, uint8_t *out, bool usual) {
   struct count count = script.line;
+  uint8_t line[USUAL_MOST] = {0};
   while (at < end && count.text != too_many) {
-    const uint8_t *line = usual ? at : in_usual_order(at, after_line(at, end));
+    const uint8_t *after = usual ? at : in_usual_order(at, line);
     out = put_count(out, count);
     count = next(count, ' ');
-    struct places places = answer(line, out);
+    struct places places = answer(usual ? at : line, out);
     out = places.at ? places.out : refused(out, 11);
-    at = places.at && usual ? places.at : after_line(at, end);
+    at = places.at ? (usual ? places.at : after) : after_line(at, end);
   }
   script.line = count;
   script.over = at < end;
