@@ -1,6 +1,6 @@
 # Two commands: `make run` runs the main job, `make test` is the whole test.
 
-.PHONY: run test lib host fuzz soak guards bench clean
+.PHONY: run test lib host peer fuzz soak guards bench clean
 
 # proves and builds `cards` (minutes the first time, nothing after that) and runs it on case A of document 01
 run:
@@ -23,6 +23,13 @@ lib:
 # the C program over it: build/cards_host
 host: lib
 	@host/build.sh
+
+# the C program that `cards` is measured beside: build/cards_peer
+peer:
+	@tests/tool.sh gcc
+	@mkdir -p build
+	@rm -f build/cards_peer
+	@gcc -O3 -march=x86-64 -std=c11 -Wall -Wextra -Werror -o build/cards_peer bench/peer.c
 
 # more of the comparisons: make fuzz SEED=7 COUNT=100000
 fuzz:

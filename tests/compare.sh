@@ -6,6 +6,7 @@ bin=reference/target/release
 cargo build --quiet --release --offline --manifest-path reference/Cargo.toml || { echo "0 passed, 1 failed"; exit 1; }
 cards=target/bin/cards
 host=build/cards_host
+peer=build/cards_peer
 scripts=20000
 work=$(mktemp -d)
 trap 'rm -rf "$work"' EXIT
@@ -30,6 +31,7 @@ prints_examples() {
 by_reference() { "$bin/cards-reference"; }
 by_cards() { "$cards"; }
 by_entry() { "$host" run "$1"; }
+by_peer() { "$peer"; }
 
 # compares OPTIONS.. PROGRAM..: a difference ends the gate in some minutes, though the fewest lines that show it may take longer to find
 compares() {
@@ -92,18 +94,18 @@ by_the_million() {
   rm -f "$work"/line-*
 }
 
-# cards keeps no more of its input than it needs: 16 MB of address space are enough for a script of more
+# streams PROGRAM: it keeps no more of its input than it needs: 16 MB of address space are enough for a script of more
 streams() {
   "$bin/make-script" 10 16 64 1000000 > "$work/script"
   [ "$(wc -c < "$work/script")" -gt 10000000 ] || return 1
   { cat "$work/script"; head -c 8000000 /dev/zero; } > "$work/longer"
-  (ulimit -v 16384 && "$cards" < "$work/longer" > "$work/listing") || return 1
+  (ulimit -v 16384 && "$1" < "$work/longer" > "$work/listing") || return 1
   "$bin/cards-reference" < "$work/longer" | cmp - "$work/listing"
 }
 
-# nothing is read after a bad names line: cards ends though its input does not
+# stops PROGRAM: nothing is read after a bad names line: it ends though its input does not
 stops() {
-  yes x 2> /dev/null | timeout 10 "$cards" > "$work/listing" && printf 'line answer value\n1 refused 11\n' | cmp - "$work/listing"
+  yes x 2> /dev/null | timeout 10 "$1" > "$work/listing" && printf 'line answer value\n1 refused 11\n' | cmp - "$work/listing"
 }
 
 # the timeline in README.md is case A's
@@ -132,8 +134,8 @@ check "cards, scripts of any length" compares --limit 60 --seed 1 --count 300 "$
 check "cards, quick scripts" compares --quick --seed 1 --count $scripts "$cards"
 check "cards, input in pieces" compares --pieces --seed 1 --count 100 "$cards"
 check "cards, a million lines" by_the_million by_cards
-check "cards, constant memory" streams
-check "cards, an input without end" stops
+check "cards, constant memory" streams "$cards"
+check "cards, an input without end" stops "$cards"
 check "the timeline of case A" timeline
 check "claims on a run of cards" claims_hold_on_cards
 
@@ -148,6 +150,15 @@ if [ -x "${host}_checked" ]; then
   check "C entry: known calls, with sanitizers" "${host}_checked" selftest
   check "C entry, quick scripts, with sanitizers" compares --frames --quick --seed 30001 --count 2000 "${host}_checked" frames
 fi
+
+check "peer: built" make --no-print-directory peer
+check "examples by the peer" prints_examples by_peer
+check "peer, scripts of any length" compares --limit 60 --seed 1 --count 300 "$peer"
+check "peer, quick scripts" compares --quick --seed 1 --count $scripts "$peer"
+check "peer, input in pieces" compares --pieces --seed 1 --count 100 "$peer"
+check "peer, a million lines" by_the_million by_peer
+check "peer, constant memory" streams "$peer"
+check "peer, an input without end" stops "$peer"
 
 echo "$passed passed, $failed failed"
 [ "$failed" -eq 0 ]
