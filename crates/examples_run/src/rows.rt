@@ -1,8 +1,8 @@
 // The examples of document 01 as rows, and what a row stands for. A row is one number, the sum of a code and of the call's numbers,
-// each times its weight. (As arrays in an array the rows would take the prover twenty seconds more.)
+// each times its weight: a table of numbers is proved in a second, an array of arrays takes twenty.
 ghost use Prim.Native.Nat.{_<_};
 
-// The weights of a code, a core, a card and a value. A core and a card are below 256, a value is below the weight of a card.
+// The weights of a code, a core, a card and a value. A core or a card is below 256, a value below the weight of a card.
 const CODE: u64 = 1 << 56;
 
 const CORE: u64 = 1 << 48;
@@ -11,7 +11,7 @@ const CARD: u64 = 1 << 40;
 
 const VALUE: u64 = 1;
 
-// Setup's two numbers, and those of a job.
+// Setup's numbers stand where a core and a card do, a job and its deadline where a card and a value do.
 const CORES: u64 = CORE;
 
 const CARDS: u64 = CARD;
@@ -47,6 +47,7 @@ const LARGEST: u64 = 4_294_967_295;
 // How many rows there are.
 pub const COUNT: usize = 107;
 
+// The examples, A to L.
 const ROWS: [u64; COUNT] = [
     // the run of the document's script; card 1 stays 0
     HEADING + b'A' as u64,
@@ -200,16 +201,15 @@ pub fn row_at(at: usize) -> Row
 // What a number stands for. No number of a call is above the largest.
 fn decode(row: u64) -> Row {
     let core = (row / CORE % 256) as u32;
-    let card = row / CARD % 256;
-    let value = row % CARD;
-    if LARGEST < value {
+    let card = (row / CARD % 256) as u32;
+    if LARGEST < row % CARD {
         return Row::Malformed;
     }
-    let value = value as u32;
+    let value = (row % CARD) as u32;
     match row - row % CODE {
         SETUP => Row::Call(Call::Setup {
             cores: core,
-            cards: card as u32,
+            cards: card,
         }),
         RELEASE => Row::Call(Call::Release {
             core,
@@ -217,15 +217,8 @@ fn decode(row: u64) -> Row {
             deadline: value,
         }),
         BEGIN => Row::Call(Call::Begin { core }),
-        READ => Row::Call(Call::Read {
-            core,
-            card: card as u32,
-        }),
-        WRITE => Row::Call(Call::Write {
-            core,
-            card: card as u32,
-            value,
-        }),
+        READ => Row::Call(Call::Read { core, card }),
+        WRITE => Row::Call(Call::Write { core, card, value }),
         COMMIT => Row::Call(Call::Commit { core }),
         GIVE_UP => Row::Call(Call::GiveUp { core }),
         FINISH => Row::Call(Call::Finish { core }),
