@@ -1,10 +1,9 @@
-// Runs the eight calls over the examples of document 01, as rows of numbers, and writes each answer with its value in the words of
+// Runs the eight calls over the rows of document 01's examples, and writes each answer with its value in the words of
 // the document's listing: a heading for each example, a line for each call.
 use crate::rows::COUNT;
 use crate::rows::Call;
-use crate::rows::ROWS;
 use crate::rows::Row;
-use crate::rows::decode;
+use crate::rows::row_at;
 use libc::STDOUT_FILENO;
 use machine::Answer;
 use machine::Machine;
@@ -26,8 +25,7 @@ fn main() {
     // refused, setup hands back the blank record
     let mut machine = Machine::setup(0, 0, &mut committed, &mut pending).machine;
     for i in 0..COUNT {
-        let row = decode(ROWS[i]);
-        machine = play(machine, row, &mut committed, &mut pending);
+        machine = play(machine, row_at(i), &mut committed, &mut pending);
     }
 }
 

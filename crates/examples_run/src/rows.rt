@@ -1,159 +1,173 @@
-// The examples of document 01 as rows of numbers, and what a row stands for.
+// The examples of document 01 as rows, and what a row stands for. A row is one number, the sum of a code and of the call's numbers,
+// each times its weight: a table of numbers is proved in a second, an array of arrays takes twenty.
+ghost use Prim.Native.Nat.{_<_};
 
-// The codes of a row: the eight calls, the heading of an example (its letter under core), and the committed values.
-const SETUP: u64 = 0;
+// The weights of a code, a core, a card and a value. A core or a card is below 256, a value below the weight of a card.
+const CODE: u64 = 1 << 56;
 
-const RELEASE: u64 = 1;
+const CORE: u64 = 1 << 48;
 
-const BEGIN: u64 = 2;
+const CARD: u64 = 1 << 40;
 
-const READ: u64 = 3;
+const VALUE: u64 = 1;
 
-const WRITE: u64 = 4;
+// Setup's numbers stand where a core and a card do, a job and its deadline where a card and a value do.
+const CORES: u64 = CORE;
 
-const COMMIT: u64 = 5;
+const CARDS: u64 = CARD;
 
-const GIVE_UP: u64 = 6;
+const JOB: u64 = CARD;
 
-const FINISH: u64 = 7;
+const DEADLINE: u64 = VALUE;
 
-const HEADING: u64 = 8;
+// The codes: the eight calls, the heading of an example (its letter is the value), and the committed values.
+const SETUP: u64 = 0 * CODE;
 
-const CARDS: u64 = 9;
+const RELEASE: u64 = 1 * CODE;
 
-// An unused field.
-const NONE: u64 = 0;
+const BEGIN: u64 = 2 * CODE;
 
-// The largest number of a field, and the largest job number.
+const READ: u64 = 3 * CODE;
+
+const WRITE: u64 = 4 * CODE;
+
+const COMMIT: u64 = 5 * CODE;
+
+const GIVE_UP: u64 = 6 * CODE;
+
+const FINISH: u64 = 7 * CODE;
+
+const HEADING: u64 = 8 * CODE;
+
+const SHOW_CARDS: u64 = 9 * CODE;
+
+// The largest number that a call takes.
 const LARGEST: u64 = 4_294_967_295;
-
-const LARGEST_JOB: u32 = 65_535;
 
 // How many rows there are.
 pub const COUNT: usize = 107;
 
-// Rows of code, core, card, value. Setup puts its two numbers under core and card; release puts the job number under card and the
-// deadline under value.
-pub const ROWS: [[u64; 4]; COUNT] = [
+// The examples, A to L.
+const ROWS: [u64; COUNT] = [
     // the run of the document's script; card 1 stays 0
-    [HEADING, b'A' as u64, NONE, NONE],
-    [SETUP, 2, 2, NONE],
-    [RELEASE, 0, 7, 100],
-    [RELEASE, 1, 8, 90],
-    [BEGIN, 0, NONE, NONE],
-    [BEGIN, 1, NONE, NONE],
-    [READ, 1, 0, NONE],
-    [WRITE, 0, 0, 30],
-    [WRITE, 1, 1, 4],
-    [COMMIT, 1, NONE, NONE],
-    [COMMIT, 0, NONE, NONE],
-    [COMMIT, 1, NONE, NONE],
-    [READ, 1, 0, NONE],
-    [COMMIT, 1, NONE, NONE],
-    [CARDS, NONE, NONE, NONE],
+    HEADING + b'A' as u64,
+    SETUP + 2 * CORES + 2 * CARDS,
+    RELEASE + 0 * CORE + 7 * JOB + 100 * DEADLINE,
+    RELEASE + 1 * CORE + 8 * JOB + 90 * DEADLINE,
+    BEGIN + 0 * CORE,
+    BEGIN + 1 * CORE,
+    READ + 1 * CORE + 0 * CARD,
+    WRITE + 0 * CORE + 0 * CARD + 30 * VALUE,
+    WRITE + 1 * CORE + 1 * CARD + 4 * VALUE,
+    COMMIT + 1 * CORE,
+    COMMIT + 0 * CORE,
+    COMMIT + 1 * CORE,
+    READ + 1 * CORE + 0 * CARD,
+    COMMIT + 1 * CORE,
+    SHOW_CARDS,
     // cores 0 and 17 are refused, 1 and 16 accepted
-    [HEADING, b'B' as u64, NONE, NONE],
-    [SETUP, 0, 1, NONE],
-    [SETUP, 17, 1, NONE],
-    [SETUP, 1, 1, NONE],
-    [SETUP, 16, 1, NONE],
+    HEADING + b'B' as u64,
+    SETUP + 0 * CORES + 1 * CARDS,
+    SETUP + 17 * CORES + 1 * CARDS,
+    SETUP + 1 * CORES + 1 * CARDS,
+    SETUP + 16 * CORES + 1 * CARDS,
     // 64 cards are accepted, 65 not
-    [HEADING, b'C' as u64, NONE, NONE],
-    [SETUP, 1, 64, NONE],
-    [SETUP, 1, 65, NONE],
+    HEADING + b'C' as u64,
+    SETUP + 1 * CORES + 64 * CARDS,
+    SETUP + 1 * CORES + 65 * CARDS,
     // core 16 of 16 is refused by every call, core 15 accepted
-    [HEADING, b'D' as u64, NONE, NONE],
-    [SETUP, 16, 1, NONE],
-    [RELEASE, 16, 1, 90],
-    [BEGIN, 16, NONE, NONE],
-    [READ, 16, 0, NONE],
-    [WRITE, 16, 0, 5],
-    [COMMIT, 16, NONE, NONE],
-    [GIVE_UP, 16, NONE, NONE],
-    [FINISH, 16, NONE, NONE],
-    [RELEASE, 15, 1, 90],
-    [BEGIN, 15, NONE, NONE],
-    [READ, 15, 0, NONE],
-    [WRITE, 15, 0, 5],
-    [COMMIT, 15, NONE, NONE],
-    [BEGIN, 15, NONE, NONE],
-    [GIVE_UP, 15, NONE, NONE],
-    [FINISH, 15, NONE, NONE],
+    HEADING + b'D' as u64,
+    SETUP + 16 * CORES + 1 * CARDS,
+    RELEASE + 16 * CORE + 1 * JOB + 90 * DEADLINE,
+    BEGIN + 16 * CORE,
+    READ + 16 * CORE + 0 * CARD,
+    WRITE + 16 * CORE + 0 * CARD + 5 * VALUE,
+    COMMIT + 16 * CORE,
+    GIVE_UP + 16 * CORE,
+    FINISH + 16 * CORE,
+    RELEASE + 15 * CORE + 1 * JOB + 90 * DEADLINE,
+    BEGIN + 15 * CORE,
+    READ + 15 * CORE + 0 * CARD,
+    WRITE + 15 * CORE + 0 * CARD + 5 * VALUE,
+    COMMIT + 15 * CORE,
+    BEGIN + 15 * CORE,
+    GIVE_UP + 15 * CORE,
+    FINISH + 15 * CORE,
     // the eighth job joins, the ninth is refused
-    [HEADING, b'E' as u64, NONE, NONE],
-    [SETUP, 1, 1, NONE],
-    [RELEASE, 0, 1, 90],
-    [RELEASE, 0, 2, 91],
-    [RELEASE, 0, 3, 92],
-    [RELEASE, 0, 4, 93],
-    [RELEASE, 0, 5, 94],
-    [RELEASE, 0, 6, 95],
-    [RELEASE, 0, 7, 96],
-    [RELEASE, 0, 8, 97],
-    [RELEASE, 0, 9, 98],
+    HEADING + b'E' as u64,
+    SETUP + 1 * CORES + 1 * CARDS,
+    RELEASE + 0 * CORE + 1 * JOB + 90 * DEADLINE,
+    RELEASE + 0 * CORE + 2 * JOB + 91 * DEADLINE,
+    RELEASE + 0 * CORE + 3 * JOB + 92 * DEADLINE,
+    RELEASE + 0 * CORE + 4 * JOB + 93 * DEADLINE,
+    RELEASE + 0 * CORE + 5 * JOB + 94 * DEADLINE,
+    RELEASE + 0 * CORE + 6 * JOB + 95 * DEADLINE,
+    RELEASE + 0 * CORE + 7 * JOB + 96 * DEADLINE,
+    RELEASE + 0 * CORE + 8 * JOB + 97 * DEADLINE,
+    RELEASE + 0 * CORE + 9 * JOB + 98 * DEADLINE,
     // begin twice
-    [HEADING, b'F' as u64, NONE, NONE],
-    [SETUP, 1, 1, NONE],
-    [RELEASE, 0, 1, 90],
-    [BEGIN, 0, NONE, NONE],
-    [BEGIN, 0, NONE, NONE],
+    HEADING + b'F' as u64,
+    SETUP + 1 * CORES + 1 * CARDS,
+    RELEASE + 0 * CORE + 1 * JOB + 90 * DEADLINE,
+    BEGIN + 0 * CORE,
+    BEGIN + 0 * CORE,
     // a later writer of a card that the earlier one has not touched commits first
-    [HEADING, b'G' as u64, NONE, NONE],
-    [SETUP, 2, 2, NONE],
-    [RELEASE, 0, 1, 90],
-    [RELEASE, 1, 2, 90],
-    [BEGIN, 0, NONE, NONE],
-    [BEGIN, 1, NONE, NONE],
-    [WRITE, 0, 0, 5],
-    [WRITE, 1, 1, 6],
-    [COMMIT, 1, NONE, NONE],
-    [COMMIT, 0, NONE, NONE],
-    [CARDS, NONE, NONE, NONE],
+    HEADING + b'G' as u64,
+    SETUP + 2 * CORES + 2 * CARDS,
+    RELEASE + 0 * CORE + 1 * JOB + 90 * DEADLINE,
+    RELEASE + 1 * CORE + 2 * JOB + 90 * DEADLINE,
+    BEGIN + 0 * CORE,
+    BEGIN + 1 * CORE,
+    WRITE + 0 * CORE + 0 * CARD + 5 * VALUE,
+    WRITE + 1 * CORE + 1 * CARD + 6 * VALUE,
+    COMMIT + 1 * CORE,
+    COMMIT + 0 * CORE,
+    SHOW_CARDS,
     // two readers of one card: neither waits
-    [HEADING, b'H' as u64, NONE, NONE],
-    [SETUP, 2, 1, NONE],
-    [RELEASE, 0, 1, 90],
-    [RELEASE, 1, 2, 90],
-    [BEGIN, 0, NONE, NONE],
-    [BEGIN, 1, NONE, NONE],
-    [READ, 0, 0, NONE],
-    [READ, 1, 0, NONE],
-    [COMMIT, 1, NONE, NONE],
-    [COMMIT, 0, NONE, NONE],
+    HEADING + b'H' as u64,
+    SETUP + 2 * CORES + 1 * CARDS,
+    RELEASE + 0 * CORE + 1 * JOB + 90 * DEADLINE,
+    RELEASE + 1 * CORE + 2 * JOB + 90 * DEADLINE,
+    BEGIN + 0 * CORE,
+    BEGIN + 1 * CORE,
+    READ + 0 * CORE + 0 * CARD,
+    READ + 1 * CORE + 0 * CARD,
+    COMMIT + 1 * CORE,
+    COMMIT + 0 * CORE,
     // a marked core reads card 64 of 64: refused, and its next read finds the mark kept
-    [HEADING, b'I' as u64, NONE, NONE],
-    [SETUP, 2, 64, NONE],
-    [RELEASE, 0, 1, 90],
-    [RELEASE, 1, 2, 90],
-    [BEGIN, 0, NONE, NONE],
-    [BEGIN, 1, NONE, NONE],
-    [READ, 1, 63, NONE],
-    [WRITE, 0, 63, 5],
-    [COMMIT, 0, NONE, NONE],
-    [READ, 1, 64, NONE],
-    [READ, 1, 63, NONE],
-    [READ, 1, 63, NONE],
+    HEADING + b'I' as u64,
+    SETUP + 2 * CORES + 64 * CARDS,
+    RELEASE + 0 * CORE + 1 * JOB + 90 * DEADLINE,
+    RELEASE + 1 * CORE + 2 * JOB + 90 * DEADLINE,
+    BEGIN + 0 * CORE,
+    BEGIN + 1 * CORE,
+    READ + 1 * CORE + 63 * CARD,
+    WRITE + 0 * CORE + 63 * CARD + 5 * VALUE,
+    COMMIT + 0 * CORE,
+    READ + 1 * CORE + 64 * CARD,
+    READ + 1 * CORE + 63 * CARD,
+    READ + 1 * CORE + 63 * CARD,
     // deadlines 90, 90: the first released runs
-    [HEADING, b'J' as u64, NONE, NONE],
-    [SETUP, 1, 1, NONE],
-    [RELEASE, 0, 1, 90],
-    [RELEASE, 0, 2, 90],
-    [FINISH, 0, NONE, NONE],
-    [FINISH, 0, NONE, NONE],
+    HEADING + b'J' as u64,
+    SETUP + 1 * CORES + 1 * CARDS,
+    RELEASE + 0 * CORE + 1 * JOB + 90 * DEADLINE,
+    RELEASE + 0 * CORE + 2 * JOB + 90 * DEADLINE,
+    FINISH + 0 * CORE,
+    FINISH + 0 * CORE,
     // a job of deadline 10 released during a transaction of a job of deadline 90 is queued, and runs after commit
-    [HEADING, b'K' as u64, NONE, NONE],
-    [SETUP, 1, 1, NONE],
-    [RELEASE, 0, 1, 90],
-    [BEGIN, 0, NONE, NONE],
-    [RELEASE, 0, 2, 10],
-    [COMMIT, 0, NONE, NONE],
-    [FINISH, 0, NONE, NONE],
-    [FINISH, 0, NONE, NONE],
+    HEADING + b'K' as u64,
+    SETUP + 1 * CORES + 1 * CARDS,
+    RELEASE + 0 * CORE + 1 * JOB + 90 * DEADLINE,
+    BEGIN + 0 * CORE,
+    RELEASE + 0 * CORE + 2 * JOB + 10 * DEADLINE,
+    COMMIT + 0 * CORE,
+    FINISH + 0 * CORE,
+    FINISH + 0 * CORE,
     // without a transaction a write is refused; a number above the largest makes no call
-    [HEADING, b'L' as u64, NONE, NONE],
-    [SETUP, 1, 1, NONE],
-    [WRITE, 0, 0, 4_294_967_295],
-    [WRITE, 0, 0, 4_294_967_296],
+    HEADING + b'L' as u64,
+    SETUP + 1 * CORES + 1 * CARDS,
+    WRITE + 0 * CORE + 0 * CARD + 4_294_967_295 * VALUE,
+    WRITE + 0 * CORE + 0 * CARD + 4_294_967_296 * VALUE,
 ];
 
 // One of the eight calls.
@@ -173,48 +187,43 @@ pub enum Row {
     Call(Call),
     Heading(u32),
     Cards,
-    // an unknown code, or a number that does not fit
+    // an unknown code, or a value above the largest
     Malformed,
 }
 
-// Decodes a row. No number of a call is above the largest.
-pub fn decode(row: [u64; 4]) -> Row {
-    let core = row[1];
-    let card = row[2];
-    let value = row[3];
-    if LARGEST < core || LARGEST < card || LARGEST < value {
-        return Row::Malformed;
-    }
-    decode_fields(row[0], core as u32, card as u32, value as u32)
+// The row at a place of the table.
+pub fn row_at(at: usize) -> Row
+    requires { ⌜ at < 107 ⌝ }
+{
+    decode(ROWS[at])
 }
 
-fn decode_fields(code: u64, core: u32, card: u32, value: u32) -> Row {
-    match code {
+// What a number stands for. No number of a call is above the largest.
+fn decode(row: u64) -> Row {
+    let core = (row / CORE % 256) as u32;
+    let card = (row / CARD % 256) as u32;
+    if LARGEST < row % CARD {
+        return Row::Malformed;
+    }
+    let value = (row % CARD) as u32;
+    match row - row % CODE {
         SETUP => Row::Call(Call::Setup {
             cores: core,
             cards: card,
         }),
-        RELEASE => decode_release(core, card, value),
+        RELEASE => Row::Call(Call::Release {
+            core,
+            job: card as u16,
+            deadline: value,
+        }),
         BEGIN => Row::Call(Call::Begin { core }),
         READ => Row::Call(Call::Read { core, card }),
         WRITE => Row::Call(Call::Write { core, card, value }),
         COMMIT => Row::Call(Call::Commit { core }),
         GIVE_UP => Row::Call(Call::GiveUp { core }),
         FINISH => Row::Call(Call::Finish { core }),
-        HEADING => Row::Heading(core),
-        CARDS => Row::Cards,
+        HEADING => Row::Heading(value),
+        SHOW_CARDS => Row::Cards,
         _ => Row::Malformed,
-    }
-}
-
-fn decode_release(core: u32, card: u32, value: u32) -> Row {
-    if LARGEST_JOB < card {
-        Row::Malformed
-    } else {
-        Row::Call(Call::Release {
-            core,
-            job: card as u16,
-            deadline: value,
-        })
     }
 }

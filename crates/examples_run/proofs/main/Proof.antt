@@ -22,14 +22,8 @@ setup-requires c κs = search needs
 loop-holds : tie.Need-loop-holds Inv-loop μ-loop
 loop-holds c = search needs
 
-mul-decode : tie.Need-mul-decode Inv-loop μ-loop
-mul-decode c = search needs
-
-array-copy-out-decode : tie.Need-array-copy-out-decode Inv-loop μ-loop
-array-copy-out-decode c = search needs
-
-decode-requires : tie.Need-decode-requires Inv-loop μ-loop
-decode-requires c κs = search needs
+row-at-requires : tie.Need-row-at-requires Inv-loop μ-loop
+row-at-requires c κs = search needs
 
 play-requires : tie.Need-play-requires Inv-loop μ-loop
 play-requires c κs = search needs
@@ -56,9 +50,7 @@ main-spec =
     slice-aggregate-setup-2
     setup-requires
     loop-holds
-    mul-decode
-    array-copy-out-decode
-    decode-requires
+    row-at-requires
     play-requires
     add-i
     loop-less
