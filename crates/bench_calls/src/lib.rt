@@ -1,6 +1,6 @@
 // Lists of calls on one machine, run through the public calls and through the inside functions, for bench/. A list is numbers: the
 // lower four bits say what is done, the rest is the core. What a list gives is specs/Lists.antt. Assumes nothing.
-use machine::Answer;
+use core::Answer;
 use machine::Machine;
 use machine::Outcome;
 use machine::inside::access;

@@ -5,7 +5,7 @@ use crate::rows::Call;
 use crate::rows::Row;
 use crate::rows::row_at;
 use libc::STDOUT_FILENO;
-use machine::Answer;
+use core::Answer;
 use machine::Machine;
 use machine::Outcome;
 ghost use Prim.Native.Nat.{_≤_};

@@ -2,7 +2,7 @@
 //
 // The contracts cite `specs/Text.antt`: `line n a` is the line for line n of the script, and `put` what putting a text over the first
 // bytes of an output leaves there. `proofs/Laws.antt` has what a caller knows of them. The public functions require nothing.
-use machine::Answer;
+use core::Answer;
 ghost use mathlib.Core.Path.{_≡_};
 ghost use Prim.Native.Nat.{_+_, _≤_};
 ghost use lib.ListN.{length, take};

@@ -1,6 +1,6 @@
 // A line of a script that has ended, as far as it goes without the machine's record: the call that it asks for, or what is listed of
 // it. Assumes nothing.
-use machine::Answer;
+use core::Answer;
 use script::Call;
 use script::Columns;
 use script::Line;
