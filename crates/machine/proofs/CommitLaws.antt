@@ -263,18 +263,21 @@ module _ (w : World) where
       unfolding Settles
       on-core false z q off mark test =
           (settle-same c (Refused 9) ∙ commit-none w c (f .is-sound) (f .committed-long) (f .pending-long) h _ off, kinds-differ _ 11 (unfold kind in refl) (λ x. omega arith))
-      on-core true true q on mark test =
-          (settle-stays c (unmarked (coreAt m c)) SetBack ∙ unfold told in commit-told w c (f .is-sound) (f .committed-long) (f .pending-long) h on _ mark,
-          kinds-differ _ 8 (unfold kind in refl) (λ x. omega arith))
+      on-core true true q on mark test = (
+        settle-stays c (unmarked (coreAt m c)) SetBack ∙ unfold told in commit-told w c (f .is-sound) (f .committed-long) (f .pending-long) h on _ mark,
+        kinds-differ _ 8 (unfold kind in refl) (λ x. omega arith),
+      )
       on-core true false true on mark test =
-          let there = held (ltb-true _ _ test) in
-          (settle-same c (Waits ahead)
-          ∙ unfold named in commit-waits w c (f .is-sound) (f .committed-long) (f .pending-long) h on mark ahead (someone-ahead m c ahead (ltb-true _ _ test) there),
-          λ e p. subst (λ (x : ℕ). contender m c x ≡ true) (same-core ahead e p) there)
-      on-core true false false on mark test =
-          (settle-passes c (omega (arith, long, core-place m (f .is-sound) c h))
-          ∙ commit-through w c (f .is-sound) (f .committed-long) (f .pending-long) h on mark _ (free (ltb-false _ _ test)),
-          kinds-differ _ 7 (unfold kind in refl) (λ x. omega arith))
+          let there = held (ltb-true _ _ test) in (
+            settle-same c (Waits ahead)
+                ∙ unfold named in commit-waits w c (f .is-sound) (f .committed-long) (f .pending-long) h on mark ahead (someone-ahead m c ahead (ltb-true _ _ test) there),
+            λ e p. subst (λ (x : ℕ). contender m c x ≡ true) (same-core ahead e p) there,
+          )
+      on-core true false false on mark test = (
+        settle-passes c (omega (arith, long, core-place m (f .is-sound) c h))
+            ∙ commit-through w c (f .is-sound) (f .committed-long) (f .pending-long) h on mark _ (free (ltb-false _ _ test)),
+        kinds-differ _ 7 (unfold kind in refl) (λ x. omega arith),
+      )
 
     -- what the commit gives where it finds its core
     abbrev pub settledAt : Found → Settled
@@ -292,9 +295,10 @@ module _ (w : World) where
             × ((e : ℕ) → settledAt to .answer ≡ Waits e → contender m c e ≡ true)
         go true h true l = unfold Settles ahead in on-core (ltb-true _ _ h) (coreAt m c .active) (coreAt m c .zombie) (ltb (ahead (ltb-true _ _ h)) 16) refl refl refl
         go true h false l = absurd (omega (arith, ltb-false 0 (m .objects) l, stands m (f .is-sound) .some-objects))
-        go false h q l =
-            (settle-same 0 (Refused 4) ∙ commit-no-core w c (f .is-sound) (f .committed-long) (f .pending-long) _ (ltb-false _ _ h),
-            kinds-differ _ 11 (unfold kind in refl) (λ x. omega arith))
+        go false h q l = (
+          settle-same 0 (Refused 4) ∙ commit-no-core w c (f .is-sound) (f .committed-long) (f .pending-long) _ (ltb-false _ _ h),
+          kinds-differ _ 11 (unfold kind in refl) (λ x. omega arith),
+        )
 
     -- the same, of what code found and got
     pub by-commit-at : (to : Found) (e : ℕ) (r : Settled) → to ≡ found c 0 (m .cores) (m .objects)

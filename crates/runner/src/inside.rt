@@ -79,12 +79,12 @@ pub fn feed(
                                 let c = to.core;
                                 let k = machine.core[c];
                                 let mut ahead: u8 = 16;
-                                let mut b = machine.cores;
-                                while 0 < b {
-                                    b -= 1;
-                                    let other = machine.core[b as usize];
+                                let mut rival = machine.cores;
+                                while 0 < rival {
+                                    rival -= 1;
+                                    let other = machine.core[rival as usize];
                                     if holds_back(other, k) {
-                                        ahead = b;
+                                        ahead = rival;
                                     }
                                 }
                                 let done = settle(to.refusal, k, ahead);
@@ -111,12 +111,7 @@ pub fn feed(
                                 done.answer
                             }
                             Asked::One(core, act) => {
-                                let to = find(
-                                    core,
-                                    object_of(act),
-                                    machine.cores,
-                                    machine.objects,
-                                );
+                                let to = find(core, object_of(act), machine.cores, machine.objects);
                                 let c = to.core;
                                 let d = to.object;
                                 let at = c * machine.objects as usize + d;
