@@ -7,6 +7,7 @@ pub mod calls;
 pub mod inside;
 mod soundness;
 
+pub use soundness::is_blank;
 pub use soundness::is_tidy;
 
 // A job in a core's list.
