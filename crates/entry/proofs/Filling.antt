@@ -90,7 +90,7 @@ total-small script out₀ text out total left l =
 pub record Running (script out₀ out cs ps scratch : List ℕ) (total : ℕ) (r : Reading) (at : ℕ) : Type 0 where
   pub fit : Fit r cs ps
   pub within : at ≤ length script
-  pub scratch-long : length scratch ≡ 4096
+  pub scratch-long : length scratch ≡ 16384
   pub text : List ℕ
   pub headed : 18 ≤ total
   pub so-far : Listed script out₀ text out total (rest r cs ps (drop at script))
@@ -132,7 +132,7 @@ chunk-listed script out₀ text out total at end r r′ cs ps cs′ ps′ scratc
         ∙ ap (λ (x : List ℕ). take (end - at) (drop at script) ++ x) (drop-drop (end - at) at script ∙ ap (λ (n : ℕ). drop n script) there)
 
 -- the heading in the scratch
-pub heading-put : (scratch scratch′ : List ℕ) (k : ℕ) → length scratch ≡ 4096 → k ≡ length (fitting heading scratch) → scratch′ ≡ put heading scratch
+pub heading-put : (scratch scratch′ : List ℕ) (k : ℕ) → length scratch ≡ 16384 → k ≡ length (fitting heading scratch) → scratch′ ≡ put heading scratch
     → (k ≡ 18) × (take k scratch′ ≡ heading)
 heading-put scratch scratch′ k long count bytes =
     let room : 32 ≤ length scratch = omega (arith, long) in
@@ -140,7 +140,7 @@ heading-put scratch scratch′ k long count bytes =
     (eighteen, ap (take k) (bytes ∙ put-whole heading scratch room) ∙ take-at heading (drop 18 scratch) k (sym eighteen))
 
 pub running-starts : (script out₀ out cs ps scratch piece : List ℕ) (total : ℕ) (r : Reading) → (total ≡ 18) × (piece ≡ heading)
-    → out ≡ placed 0 piece out₀ → length scratch ≡ 4096 → r ≡ started → length cs ≡ 64 → length ps ≡ 1024
+    → out ≡ placed 0 piece out₀ → length scratch ≡ 16384 → r ≡ started → length cs ≡ 64 → length ps ≡ 1024
     → Running script out out cs ps scratch total r 0
 running-starts script out₀ out cs ps scratch piece total r put e long new committed pending =
     record {
@@ -156,7 +156,7 @@ running-starts script out₀ out cs ps scratch piece total r put e long new comm
 
 module _ (script out₀ out cs ps scratch : List ℕ) (total : ℕ) (r : Reading) (at : ℕ) (run : Running script out₀ out cs ps scratch total r at) where
   pub running-goes : (end : ℕ) (r′ : Reading) (cs′ ps′ scratch′ out′ : List ℕ) (k : ℕ) → at < end → end ≤ length script → Fit r′ cs′ ps′
-      → length scratch′ ≡ 4096 → k ≤ 4096
+      → length scratch′ ≡ 16384 → k ≤ 16384
       → ((bytes : List ℕ) → rest r cs ps (take (end - at) (drop at script) ++ bytes) ≡ take k scratch′ ++ rest r′ cs′ ps′ bytes)
       → out′ ≡ placed total (take k scratch′) out → Running script out₀ out′ cs′ ps′ scratch′ (total + k) r′ end
   running-goes end r′ cs′ ps′ scratch′ out′ k forward within fit long few e put =
@@ -207,8 +207,8 @@ module _ (script out₀ out cs ps scratch : List ℕ) (total : ℕ) (r : Reading
       (subst (λ (x : List ℕ). Listed script out₀ (run .text) out total x)
       (ap (rest r cs ps) (drop-of-length-le script {i = at} over) ∙ sym last) (run .so-far)) (sym (length-take-le n scratch′ few)))
 
--- a chunk of at most 128 bytes is listed in at most 4,096
-pub few-bytes : (script : List ℕ) (at end k : ℕ) → end ≤ at + 128 → k ≤ 32 * length (take (end - at) (drop at script)) → k ≤ 4096
+-- a chunk of at most 512 bytes is listed in at most 16,384
+pub few-bytes : (script : List ℕ) (at end k : ℕ) → end ≤ at + 512 → k ≤ 32 * length (take (end - at) (drop at script)) → k ≤ 16384
 few-bytes script at end k near h = omega (arith, near, h, length-take (end - at) (drop at script))
 
 -- less of the script is left

@@ -13,7 +13,7 @@ ghost use Rattle.runner.specs.Runs.{EveryScript};
 ghost use Rattle.entry.specs.Fitting.{wholeOrNone, outputAfter};
 
 // How many bytes of the script are run at a time. Each may end a line, which takes up to 32 bytes of text.
-const CHUNK: usize = 128;
+const CHUNK: usize = 512;
 
 // Lists the script over the first bytes of the output and answers how many bytes that is. A listing that is longer than the output is
 // refused (12): the answer is 0 and the output is untouched. The claim about whole runs holds of every script: of the calls after each
@@ -66,7 +66,7 @@ fn is_enough(bytes: usize, lines: usize) -> bool
 // Where the chunk that begins at `at` ends.
 fn chunk_end(length: usize, at: usize) -> usize
     requires { ⌜ at < length ⌝ }
-    ensures { λ r. ⌜ (at < r) × (r ≤ length) × (r ≤ at + 128) ⌝ }
+    ensures { λ r. ⌜ (at < r) × (r ≤ length) × (r ≤ at + 512) ⌝ }
 {
     if length - at < CHUNK {
         length
@@ -90,7 +90,7 @@ fn list_into(script: &[u8], output: &mut [u8]) -> usize
 {
     let mut committed = [0u32; 64];
     let mut pending = [0u32; 1024];
-    let mut text = [0u8; 4096];
+    let mut text = [0u8; 16384];
     let mut total = listing::put_heading(&mut text);
     listing::put_bytes(output, 0, &text[..total]);
     let mut reading = Reading::start();
