@@ -16,7 +16,7 @@ use Rattle.machine.specs.declared.Machine.{Machine}
 use Rattle.machine.specs.declared.Outcome.{Outcome}
 use Rattle.core.specs.declared.Answer.{Answer}
 use Rattle.core.specs.declared.Answer.the-variants.{Ready, Running, Queued, Begun, Value, Written, Waits, Committed, SetBack, Ended, Finished, Refused}
-use Rattle.machine.proofs.Answer as AnswerType
+use Rattle.core.proofs.Answer as AnswerType
 use Rattle.bench_calls.specs.Lists.{numberOf, door, inside, State, after, ready, next, run, doorRun, insideRun}
 use Rattle.bench_calls.proofs.Steps.{Left}
 
