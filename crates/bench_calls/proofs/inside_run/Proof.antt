@@ -295,7 +295,7 @@ abort-requires c κs =
     let at = c .before .before .before .before in
     let test = c .before .before .before .loop2-test .taken in
     let here = striking-next _ _ _ _ (at .loop2 .inv .1) (omega (arith, sixteen (done-of at), test)) in
-    omega (arith, ap (λ (k : Core). k .aborts) here, able (done-of at) .strikable (at .loop2 .e) test)
+    omega (arith, ap (λ (k : Core). k .aborts) here, able (done-of at) .strikable (at .loop2 .e) (omega (arith, test)))
 
 mul-t79 : tie.Need-mul-t79 Inv-loop2 μ-loop2 Inv-loop μ-loop
 mul-t79 c = search needs
