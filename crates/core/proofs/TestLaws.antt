@@ -1,6 +1,6 @@
 -- Laws of tests that code makes one by one: a test after another, and a test of each of the first n numbers.
 -- Assumes nothing.
-use mathlib.Core.Path.{_≡_, refl, sym, ap, ap₂, _∙_}
+use mathlib.Core.Path.{_≡_, refl, sym, ap, _∙_}
 use mathlib.Core.Bool.{Bool, true, false, not, _&&_, true≢false}
 use Prim.Native.Nat.{ℕ, zero, suc, _+_, _≤_, _<_}
 use native.Mathlib.Omega.{arith}
@@ -57,9 +57,12 @@ unfolding each
 each-none f = refl
 
 -- one more that passes
-pub each-more : (n : ℕ) (f : ℕ → Bool) → each n f ≡ true → f n ≡ true → each (n + 1) f ≡ true
+pub each-on : (n : ℕ) (f : ℕ → Bool) → f n ≡ true → each n f ≡ each (n + 1) f
 unfolding each
-each-more n f all here = ap (λ (x : ℕ). each x f) (add-one n) ∙ ap₂ _&&_ here all
+each-on n f here = sym (ap (λ (x : ℕ). each x f) (add-one n) ∙ ap (λ (b : Bool). b && each n f) here)
+
+pub each-more : (n : ℕ) (f : ℕ → Bool) → each n f ≡ true → f n ≡ true → each (n + 1) f ≡ true
+each-more n f all here = sym (each-on n f here) ∙ all
 
 -- the end is reached
 pub each-all : (n i : ℕ) (f : ℕ → Bool) → n ≤ i → i ≤ n → each i f ≡ true → true ≡ each n f

@@ -1,18 +1,19 @@
 -- The rules that a core keeps by itself as plain statements: `Tidy objects k` holds if and only if the test `tidy objects k` passes.
 -- Assumes nothing.
-use mathlib.Core.Path.{_≡_, ap}
-use mathlib.Core.Bool.{Bool, true, false, not, _&&_}
+use mathlib.Core.Path.{_≡_, sym, ap, _∙_}
+use mathlib.Core.Bool.{true, false, not, _&&_, true≢false}
 use Prim.Native.Nat.{ℕ, _≤_, _<_}
 use native.Mathlib.Omega.{arith}
 use lib.Dec.{eqb, leb, ltb}
 use borrow.Author.Tests.{ltb-true, leb-true, eqb-true, lt-ltb, le-leb, not-true}
-use Rattle.objset.specs.Objset.{has, below}
+use Rattle.objset.specs.Objset.{has, each, below}
+use Rattle.objset.proofs.Digits.{has-zero}
 use Rattle.objset.proofs.Laws.{each-one, one-each}
 use Rattle.core.specs.declared.Core.{Core}
 use Rattle.core.specs.declared.Job.{Job}
 use Rattle.core.specs.Parts.{noJob, jobAt}
-use Rattle.core.specs.Tidy.{_⇒_, setsWithin, ownerListed, emptySets, clear, idleClear, zombieEmpty, atMostEight, zeroJob, unusedJobs, ownerFirst}
-use Rattle.core.proofs.TestLaws.{if-true, true-if, both}
+use Rattle.core.specs.Tidy.{_⇒_, setsWithin, ownerListed, emptySets, clear, idleClear, zombieEmpty, atMostEight, zeroJob, unusedJobs, ownerFirst, unused, tidy, blank}
+use Rattle.core.proofs.TestLaws.{same-test, if-true, true-if, both}
 
 -- empty sets, no mark, and owner's place, ticket and setbacks 0
 pub record Clear (k : Core) : Type 0 where
@@ -55,9 +56,6 @@ empty-sets : (k : Core) → emptySets k ≡ true → (k .reads ≡ 0) × (k .wri
 empty-sets k e =
     let p = both (eqb (k .reads) 0) (eqb (k .writes) 0) e in
     (eqb-true (k .reads) 0 (p .0), eqb-true (k .writes) 0 (p .1))
-
-are-empty : (k : Core) → k .reads ≡ 0 → k .writes ≡ 0 → emptySets k ≡ true
-are-empty k p q = rw (p, q)
 
 is-clear : (k : Core) → (emptySets k && not (k .zombie) && eqb (k .owner) 0 && eqb (k .ticket) 0 && eqb (k .aborts) 0) ≡ true → Clear k
 is-clear k e =
@@ -134,3 +132,84 @@ module _ (objects : ℕ) (k : Core) (t : Tidy objects k) where
       (λ a. one-each 8 _
       (λ p l. true-if (ltb p (k .owner)) _
       (λ b. lt-ltb (jobAt k (k .owner) .deadline) (jobAt k p .deadline) (t .owner-first a p (ltb-true p (k .owner) b)))))
+
+-- ---- a blank core
+
+pub record Blank (k : Core) : Type 0 where
+  pub cleared : Clear k
+  pub no-transaction : k .active ≡ false
+  pub no-count : k .count ≡ 0
+  pub no-jobs : (p : ℕ) → p < 8 → jobAt k p ≡ noJob
+
+pub blank-core : (k : Core) → blank k ≡ true → Blank k
+blank-core k e =
+    let s = both _ (emptySets k) e in
+    let j = both _ (each 8 (λ p. zeroJob (jobAt k p))) (s .0) in
+    let b = both _ (eqb (k .aborts) 0) (j .0) in
+    let t = both _ (eqb (k .ticket) 0) (b .0) in
+    let o = both _ (eqb (k .owner) 0) (t .0) in
+    let n = both _ (eqb (k .count) 0) (o .0) in
+    let z = both (not (k .active)) (not (k .zombie)) (n .0) in
+    record {
+      cleared =
+          record {
+            no-reads = empty-sets k (s .1) .0;
+            no-writes = empty-sets k (s .1) .1;
+            no-mark = not-true (k .zombie) (z .1);
+            no-owner = eqb-true (k .owner) 0 (o .1);
+            no-ticket = eqb-true (k .ticket) 0 (t .1);
+            no-aborts = eqb-true (k .aborts) 0 (b .1);
+          };
+      no-transaction = not-true (k .active) (z .0);
+      no-count = eqb-true (k .count) 0 (n .1);
+      no-jobs = λ p l. zero-job (jobAt k p) (each-one 8 _ (j .1) p l);
+    }
+
+-- a place for a core that the machine lacks is blank if and only if it keeps the rules and has no jobs and no transaction
+pub blank-tidy : (objects : ℕ) (k : Core) → blank k ≡ (tidy objects k && unused k)
+blank-tidy objects k = same-test (blank k) (tidy objects k && unused k) to from
+  where
+    to : blank k ≡ true → (tidy objects k && unused k) ≡ true
+    to e =
+        let b = blank-core k e in
+        let no-object : (s d : ℕ) → s ≡ 0 → has s d ≡ true → d < objects =
+        λ s d z h. absurd (true≢false (sym h ∙ ap (λ (x : ℕ). has x d) z ∙ has-zero d)) in
+        let t : Tidy objects k =
+        record {
+          reads-within = λ d l. no-object (k .reads) d (b .cleared .no-reads);
+          writes-within = λ d l. no-object (k .writes) d (b .cleared .no-writes);
+          owner-listed = λ on. absurd (true≢false (sym on ∙ b .no-transaction));
+          idle-clear = λ off. b .cleared;
+          zombie-empty = λ z. (b .cleared .no-reads, b .cleared .no-writes);
+          at-most-eight = omega (arith, b .no-count);
+          unused-jobs = λ p l h. b .no-jobs p l;
+          owner-first = λ on. absurd (true≢false (sym on ∙ b .no-transaction));
+        } in
+        rw (
+          sets-pass objects k t,
+          owner-passes objects k t,
+          idle-passes objects k t,
+          zombie-passes objects k t,
+          eight-pass objects k t,
+          unused-pass objects k t,
+          first-passes objects k t,
+          b .no-count,
+          b .no-transaction,
+        )
+
+    from : (tidy objects k && unused k) ≡ true → blank k ≡ true
+    from e =
+        let u = both (tidy objects k) (unused k) e in
+        let f = both _ (ownerFirst k) (u .0) in
+        let j = both _ (unusedJobs k) (f .0) in
+        let a = both _ (atMostEight k) (j .0) in
+        let z = both _ (zombieEmpty k) (a .0) in
+        let i = both (setsWithin objects k && ownerListed k) (idleClear k) (z .0) in
+        let n = both (eqb (k .count) 0) (not (k .active)) (u .1) in
+        let none : k .count ≡ 0 = eqb-true (k .count) 0 (n .0) in
+        let off = not-true (k .active) (n .1) in
+        let c = is-clear k (if-true (not (k .active)) (clear k) (i .1) (ap not off)) in
+        let jobs : each 8 (λ p. zeroJob (jobAt k p)) ≡ true =
+        one-each 8 _
+        (λ p l. if-true (leb (k .count) p) (zeroJob (jobAt k p)) (each-one 8 _ (j .1) p l) (le-leb (k .count) p (omega (arith, none)))) in
+        rw (off, c .no-mark, none, c .no-owner, c .no-ticket, c .no-aborts, jobs, c .no-reads, c .no-writes)

@@ -1,19 +1,70 @@
 -- The laws behind the soundness test of one core. Assumes nothing.
-use mathlib.Core.Path.{_≡_, refl, sym}
-use mathlib.Core.Bool.{Bool, true, false, not, _&&_}
+use mathlib.Core.Path.{_≡_, refl, sym, ap, ap₂, _∙_}
+use mathlib.Core.Bool.{Bool, true, false, not, _&&_, _||_, true≢false}
 use mathlib.Core.List.{List}
-use Prim.Native.Nat.{ℕ, _≤_, _<_}
+use Prim.Native.Nat.{ℕ, _+_, _*_, _^_, _≤_, _<_}
 use native.Mathlib.Omega.{arith}
+use native.Mathlib.Numerals.{add-one}
 use lib.Dec.{eqb, leb, ltb}
 use lib.ListN.{getD}
-use borrow.Author.Tests.{ltb-true, leb-true, lt-ltb, le-ltb, le-leb}
-use Rattle.objset.specs.Objset.{each, below}
-use Rattle.objset.proofs.Laws.{both-left, one-each}
+use borrow.Author.Tests.{ltb-true, leb-true, eqb-true, lt-ltb, le-ltb, le-leb, eq-eqb}
+use Rattle.objset.specs.Objset.{has, collect, each, joined, below}
+use Rattle.objset.proofs.Digits.{has-zero}
+use Rattle.objset.proofs.Laws.{both-left, both-right, one-each, same-members, has-joined, joined-fits, below-member, member-below}
 use Rattle.core.specs.declared.Core.{Core}
 use Rattle.core.specs.declared.Job.{Job}
 use Rattle.core.specs.Parts.{noJob}
 use Rattle.core.specs.Tidy.{_⇒_, emptySets, zeroJob}
-use Rattle.core.proofs.TestLaws.{and-true, each-fails, if-true, true-if}
+use Rattle.core.proofs.TestLaws.{and-true, same-test, each-fails, if-true, true-if}
+
+-- ---- two sets together
+
+or-left : (a b : Bool) → a ≡ true → (a || b) ≡ true
+or-left true b e = refl
+or-left false b e = absurd (true≢false (sym e))
+
+or-right : (a b : Bool) → b ≡ true → (a || b) ≡ true
+or-right true b e = refl
+or-right false b e = e
+
+empty-joined : eqb (joined 0 0) 0 ≡ true
+unfolding joined collect has
+empty-joined = refl
+
+module _ (a b : ℕ) (ha : a < 2 ^ 64) (hb : b < 2 ^ 64) where
+  pub joined-below : (n : ℕ) → below (joined a b) n ≡ (below a n && below b n)
+  joined-below n = same-test _ _ to from
+    where
+      to : below (joined a b) n ≡ true → (below a n && below b n) ≡ true
+      to e =
+          ap₂ _&&_ (member-below a n (λ d p. below-member (joined a b) n d (joined-fits a b) e (has-joined a b d ha hb ∙ or-left (has a d) (has b d) p)))
+          (member-below b n (λ d p. below-member (joined a b) n d (joined-fits a b) e (has-joined a b d ha hb ∙ or-right (has a d) (has b d) p)))
+
+      from : (below a n && below b n) ≡ true → below (joined a b) n ≡ true
+      from e = member-below (joined a b) n (λ d h. go d (has a d) refl (sym (has-joined a b d ha hb) ∙ h))
+        where
+          go : (d : ℕ) (q : Bool) → has a d ≡ q → (q || has b d) ≡ true → d < n
+          go d true t h = below-member a n d ha (both-left (below a n) (below b n) e) t
+          go d false t h = below-member b n d hb (both-right (below a n) (below b n) e) h
+
+  pub joined-zero : eqb (joined a b) 0 ≡ (eqb a 0 && eqb b 0)
+  joined-zero = same-test _ _ to from
+    where
+      none-in : (s : ℕ) → s < 2 ^ 64 → ((d : ℕ) → has s d ≡ true → has (joined a b) d ≡ true) → joined a b ≡ 0 → s ≡ 0
+      none-in s l h z = same-members s 0 l (omega arith) (λ d m. go d (has s d) refl)
+        where
+          go : (d : ℕ) (q : Bool) → has s d ≡ q → q ≡ has 0 d
+          go d true t = sym (h d t) ∙ ap (λ (x : ℕ). has x d) z
+          go d false t = sym (has-zero d)
+
+      to : eqb (joined a b) 0 ≡ true → (eqb a 0 && eqb b 0) ≡ true
+      to e =
+          let z = eqb-true (joined a b) 0 e in
+          ap₂ _&&_ (eq-eqb a 0 (none-in a ha (λ d p. has-joined a b d ha hb ∙ or-left (has a d) (has b d) p) z))
+          (eq-eqb b 0 (none-in b hb (λ d p. has-joined a b d ha hb ∙ or-right (has a d) (has b d) p) z))
+
+      from : (eqb a 0 && eqb b 0) ≡ true → eqb (joined a b) 0 ≡ true
+      from e = rw (eqb-true a 0 (both-left (eqb a 0) (eqb b 0) e), eqb-true b 0 (both-right (eqb a 0) (eqb b 0) e)) empty-joined
 
 -- ---- one core
 
@@ -67,9 +118,38 @@ pub owner-not-first : (jobs : List Job) (o p : ℕ) → o < 8 → p < o
 owner-not-first jobs o p b l h =
     each-fails 8 _ p (omega arith) (rw (lt-ltb p o l, le-ltb (getD jobs o noJob .deadline) (getD jobs p noJob .deadline) h))
 
--- what core_tidy tests
-abbrev pub tidyOf : ℕ → Core → Bool
-tidyOf objects k =
-    below (k .reads) objects && below (k .writes) objects && (k .active ⇒ ltb (k .owner) (k .count))
-    && (not (k .active) ⇒ clearOf k) && (k .zombie ⇒ emptySets k) && leb (k .count) 8 && unusedZero (k .jobs) (k .count)
-    && (k .active ⇒ firstAt (k .jobs) (k .owner))
+-- the jobs before the place 0 are none
+pub first-at-zero : (jobs : List Job) → firstAt jobs 0 ≡ true
+first-at-zero jobs = sym (owner-first jobs 0 0 (omega arith) (λ q l. absurd (omega arith)))
+
+-- an owner's place that is not 0 is a transaction's
+pub has-transaction : (k : Core) → transactionOf k ≡ true → (k .owner ≡ 0 → ⊥) → k .active ≡ true
+has-transaction k e h = go (k .active) refl
+  where
+    go : (b : Bool) → k .active ≡ b → b ≡ true
+    go true t = refl
+    go false t =
+        let marked = emptySets k && not (k .zombie) in
+        absurd (h (eqb-true (k .owner) 0 (both-right marked (eqb (k .owner) 0) (both-left (marked && eqb (k .owner) 0) (eqb (k .ticket) 0)
+        (both-left (marked && eqb (k .owner) 0 && eqb (k .ticket) 0) (eqb (k .aborts) 0) (without-transaction k t ∙ e))))))
+
+-- ---- a blank core
+
+-- a job as one number
+pub job-zero : (n d : ℕ) → eqb (n + d * 4294967296) 0 ≡ (eqb n 0 && eqb d 0)
+job-zero n d = same-test _ _ to from
+  where
+    to : eqb (n + d * 4294967296) 0 ≡ true → (eqb n 0 && eqb d 0) ≡ true
+    to e = let z : n + d * 4294967296 ≡ 0 = eqb-true (n + d * 4294967296) 0 e in ap₂ _&&_ (eq-eqb n 0 (omega arith)) (eq-eqb d 0 (omega arith))
+
+    from : (eqb n 0 && eqb d 0) ≡ true → eqb (n + d * 4294967296) 0 ≡ true
+    from e = rw (eqb-true n 0 (both-left (eqb n 0) (eqb d 0) e), eqb-true d 0 (both-right (eqb n 0) (eqb d 0) e))
+
+-- one more job is looked at
+pub each-next : (n : ℕ) (f : ℕ → Bool) (a : Bool) → (f n && (each n f && a)) ≡ (each (n + 1) f && a)
+unfolding each
+each-next n f a = go (f n) ∙ ap (λ (x : ℕ). each x f && a) (sym (add-one n))
+  where
+    go : (b : Bool) → (b && (each n f && a)) ≡ (b && each n f && a)
+    go true = refl
+    go false = refl

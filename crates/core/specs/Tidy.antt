@@ -62,3 +62,9 @@ unused k = eqb (k .count) 0 && not (k .active)
 abbrev pub tidy : ℕ → Core → Bool
 tidy objects k =
     setsWithin objects k && ownerListed k && idleClear k && zombieEmpty k && atMostEight k && unusedJobs k && ownerFirst k
+
+-- every field is 0
+abbrev pub blank : Core → Bool
+blank k =
+    not (k .active) && not (k .zombie) && eqb (k .count) 0 && eqb (k .owner) 0 && eqb (k .ticket) 0 && eqb (k .aborts) 0
+    && each 8 (λ p. zeroJob (jobAt k p)) && emptySets k

@@ -7,6 +7,7 @@ pub mod calls;
 pub mod inside;
 mod soundness;
 
+pub use soundness::is_blank;
 pub use soundness::is_tidy;
 
 // A job in a core's list.
@@ -15,7 +16,7 @@ pub struct Job {
     pub deadline: u32,
 }
 
-// One core: its list of jobs and its transaction.
+// One core: its list of jobs and its transaction. The small fields stand together, which saves the compiler copies of what lies between.
 pub struct Core {
     // the list, in order of release; the places from count on are unused
     pub jobs: [Job; 8],
@@ -24,14 +25,14 @@ pub struct Core {
     pub active: bool,
     // the place of the transaction's job in the list (document 01: owner's place)
     pub owner: u8,
-    pub ticket: u32,
     // how often the transaction was aborted (document 01: setbacks)
     pub aborts: u8,
-    // aborted by another's commit and not told yet (document 01: marked)
-    pub zombie: bool,
+    pub ticket: u32,
     // the read set and the write set
     pub reads: u64,
     pub writes: u64,
+    // aborted by another's commit and not told yet (document 01: marked)
+    pub zombie: bool,
 }
 
 // What a call answers.

@@ -4,27 +4,21 @@ use crate::Core;
 ghost use mathlib.Core.Path.{_≡_};
 ghost use mathlib.Core.Bool.{_&&_};
 ghost use Prim.Native.Nat.{_<_};
-ghost use Rattle.core.specs.Tidy.{emptySets, clear, setsWithin, ownerListed, idleClear, zombieEmpty, unusedJobs, firstListed, tidy};
+ghost use Rattle.core.specs.Tidy.{emptySets, clear, setsWithin, ownerListed, idleClear, zombieEmpty, unusedJobs, firstListed, tidy, blank};
 
 // Whether the core's sets lie within the objects.
 fn sets_within(k: Core, objects: u8) -> bool
     ensures { λ r. ⌜ r ≡ setsWithin objects k ⌝ }
 {
     let n = objects as usize;
-    if !objset::within(k.reads, n) {
-        return false;
-    }
-    objset::within(k.writes, n)
+    objset::within(objset::union(k.reads, k.writes), n)
 }
 
 // Whether the core's sets are empty.
 fn sets_empty(k: Core) -> bool
     ensures { λ r. ⌜ r ≡ emptySets k ⌝ }
 {
-    if k.reads != 0 {
-        return false;
-    }
-    k.writes == 0
+    objset::union(k.reads, k.writes) == 0
 }
 
 // Whether the core has empty sets, no mark, and owner's place, ticket and aborts (document 01: setbacks) 0.
@@ -99,7 +93,8 @@ fn owner_first(k: Core) -> bool
     true
 }
 
-// Whether the core keeps the rules that a core keeps by itself, on a machine of that many objects (document 01: cards).
+// Whether the core keeps the rules that a core keeps by itself, on a machine of that many objects (document 01: cards). The last rule is
+// about the jobs before the owner's, so only an owner's place that is not 0 is looked at.
 pub fn is_tidy(k: Core, objects: u8) -> bool
     ensures { λ r. ⌜ r ≡ tidy objects k ⌝ }
 {
@@ -115,8 +110,42 @@ pub fn is_tidy(k: Core, objects: u8) -> bool
     if !unused_zero(k) {
         return false;
     }
-    if k.active {
+    if k.owner != 0 {
         return owner_first(k);
     }
     true
+}
+
+// Whether every field of the core is 0. A job counts as one number, its deadline above its number, and all are joined before they are
+// tested: so the compiler takes several at a time.
+pub fn is_blank(k: Core) -> bool
+    ensures { λ r. ⌜ r ≡ blank k ⌝ }
+{
+    let jobs = k.jobs;
+    let mut all = objset::union(k.reads, k.writes);
+    let mut p: usize = 0;
+    while p < 8 {
+        let j = jobs[p];
+        all = objset::union(j.number as u64 + j.deadline as u64 * 4294967296, all);
+        p += 1;
+    }
+    if k.active {
+        return false;
+    }
+    if k.zombie {
+        return false;
+    }
+    if k.count != 0 {
+        return false;
+    }
+    if k.owner != 0 {
+        return false;
+    }
+    if k.ticket != 0 {
+        return false;
+    }
+    if k.aborts != 0 {
+        return false;
+    }
+    all == 0
 }

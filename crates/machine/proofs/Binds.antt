@@ -10,6 +10,9 @@ use Rattle.core.specs.declared.Answer.{Answer}
 use Rattle.core.specs.declared.Answer.the-variants.{Waits}
 use Rattle.machine.specs.Answers.{named}
 use Rattle.machine.specs.Rule.{World, Result, lent, left, release, begin, read, write, commit, giveUp, finish, contender, rule, Call, Release, Begin, Read, Write, Commit, GiveUp, Finish}
+use Rattle.core.specs.declared.calls.Act.{Act}
+use Rattle.core.specs.declared.calls.Act.the-variants as Act
+use Rattle.machine.specs.OneCore.{callOf}
 use Rattle.machine.specs.Follows.{Follows}
 use Rattle.machine.proofs.Case.{Case, release-case, begin-case, read-case, write-case, give-up-case, finish-case}
 use Rattle.machine.proofs.CanFollow.{waits-only}
@@ -71,3 +74,14 @@ module _ (m : Machine) (cs ps : List ℕ) (r : Outcome) where
     unfolding rule
     commit-follows c e waits =
         record { answer-is = ap (λ (x : Result). x .answer) e; world-is = ap (λ (x : Result). x .world) e; waits-for = waits }
+
+-- a call that concerns one core, made in place
+pub act-follows : (w : World) (a : Act) (c : ℕ) (x : Answer) (w′ : World) → record { answer = x; world = w′ } ≡ rule 0 w (callOf a c)
+    → Follows w (callOf a c) x w′
+unfolding rule
+act-follows w (Act.Release number deadline) c x w′ e = unnamed w (Release c number deadline) x w′ (λ b. refl) (release-case w c number deadline) e
+act-follows w Act.Begin c x w′ e = unnamed w (Begin c) x w′ (λ b. refl) (begin-case w c) e
+act-follows w (Act.Read d) c x w′ e = unnamed w (Read c d) x w′ (λ b. refl) (read-case w c d) e
+act-follows w (Act.Write d v) c x w′ e = unnamed w (Write c d v) x w′ (λ b. refl) (write-case w c d v) e
+act-follows w Act.GiveUp c x w′ e = unnamed w (GiveUp c) x w′ (λ b. refl) (give-up-case w c) e
+act-follows w Act.Finish c x w′ e = unnamed w (Finish c) x w′ (λ b. refl) (finish-case w c) e

@@ -6,7 +6,7 @@ use Prim.Native.Nat.{ℕ, zero, suc, _+_, _*_, _≤_, _<_}
 use native.Mathlib.Nat.{mul-le-mul-right, suc-mul}
 use native.Mathlib.Omega.{arith}
 use lib.Dec.{ltb}
-use lib.ListN.{length, getD, set}
+use lib.ListN.{length, getD, set, drop}
 use lib.Seq.{set-getD}
 use borrow.Author.Tests.{ltb-true, ltb-false, eq-eqb, ne-eqb}
 use Rattle.objset.specs.Objset.{has, some}
@@ -27,11 +27,11 @@ use Rattle.machine.specs.Sound.{sound}
 use Rattle.machine.specs.Answers.{kind, named}
 use Rattle.machine.specs.Inside.{Fine}
 use Rattle.machine.specs.Rule.{World, Result, withMachine, unlessLent, wrongTables, told, contender, blocked, changed, moved, through, waiting, commitRefusal, commit}
-use Rattle.machine.specs.OneCore.{found, firstHolding, strikes, settled}
+use Rattle.machine.specs.OneCore.{found, firstFrom, firstHolding, strikes, settled}
 use Rattle.machine.proofs.Entries.{put-each, changed-at, changed-long}
 use Rattle.machine.proofs.Facts.{stands, core-place, one-open}
 use Rattle.machine.proofs.CallLaws.{is-sound, a-core, no-core, refused-lent, accepted-lent}
-use Rattle.machine.proofs.CoreLists.{holding-holds, holding-none, strikes-none, changed-none, strikes-cleared}
+use Rattle.machine.proofs.CoreLists.{idle-holding, holding-holds, holding-none, strikes-none, changed-none, strikes-cleared}
 use Rattle.machine.proofs.Front.{Stands, stands-next, stands-stored, stands-kept, stands-past, stands-all}
 
 -- ---- the loops over the objects of the write set
@@ -92,6 +92,10 @@ nobody-ahead m s c h = none-some 16 (contender m c) (λ e l. go e l (ltb e (m .c
     go : (e : ℕ) → e < 16 → (q : Bool) → ltb e (m .cores) ≡ q → contender m c e ≡ false
     go e l true p = h e (ltb-true e (m .cores) p)
     go e l false p = contender-idle m c e (stands m s .turns .lacked e l (ltb-false e (m .cores) p))
+
+-- so a search may begin at the last core that the machine has
+pub lacked-holding : (m : Machine) (s : sound m ≡ true) (k : Core) → length (m .core) ≡ 16 → 16 ≡ firstFrom (drop (m .cores) (m .core)) (m .cores) k
+lacked-holding m s k long = idle-holding (m .core) (m .cores) k (λ e l p. stands m s .turns .lacked e (omega (arith, long)) p)
 
 -- ---- what a sound record tells the functions that a commit calls
 
@@ -259,18 +263,21 @@ module _ (w : World) where
       unfolding Settles
       on-core false z q off mark test =
           (settle-same c (Refused 9) ∙ commit-none w c (f .is-sound) (f .committed-long) (f .pending-long) h _ off, kinds-differ _ 11 (unfold kind in refl) (λ x. omega arith))
-      on-core true true q on mark test =
-          (settle-stays c (unmarked (coreAt m c)) SetBack ∙ unfold told in commit-told w c (f .is-sound) (f .committed-long) (f .pending-long) h on _ mark,
-          kinds-differ _ 8 (unfold kind in refl) (λ x. omega arith))
+      on-core true true q on mark test = (
+        settle-stays c (unmarked (coreAt m c)) SetBack ∙ unfold told in commit-told w c (f .is-sound) (f .committed-long) (f .pending-long) h on _ mark,
+        kinds-differ _ 8 (unfold kind in refl) (λ x. omega arith),
+      )
       on-core true false true on mark test =
-          let there = held (ltb-true _ _ test) in
-          (settle-same c (Waits ahead)
-          ∙ unfold named in commit-waits w c (f .is-sound) (f .committed-long) (f .pending-long) h on mark ahead (someone-ahead m c ahead (ltb-true _ _ test) there),
-          λ e p. subst (λ (x : ℕ). contender m c x ≡ true) (same-core ahead e p) there)
-      on-core true false false on mark test =
-          (settle-passes c (omega (arith, long, core-place m (f .is-sound) c h))
-          ∙ commit-through w c (f .is-sound) (f .committed-long) (f .pending-long) h on mark _ (free (ltb-false _ _ test)),
-          kinds-differ _ 7 (unfold kind in refl) (λ x. omega arith))
+          let there = held (ltb-true _ _ test) in (
+            settle-same c (Waits ahead)
+                ∙ unfold named in commit-waits w c (f .is-sound) (f .committed-long) (f .pending-long) h on mark ahead (someone-ahead m c ahead (ltb-true _ _ test) there),
+            λ e p. subst (λ (x : ℕ). contender m c x ≡ true) (same-core ahead e p) there,
+          )
+      on-core true false false on mark test = (
+        settle-passes c (omega (arith, long, core-place m (f .is-sound) c h))
+            ∙ commit-through w c (f .is-sound) (f .committed-long) (f .pending-long) h on mark _ (free (ltb-false _ _ test)),
+        kinds-differ _ 7 (unfold kind in refl) (λ x. omega arith),
+      )
 
     -- what the commit gives where it finds its core
     abbrev pub settledAt : Found → Settled
@@ -288,9 +295,10 @@ module _ (w : World) where
             × ((e : ℕ) → settledAt to .answer ≡ Waits e → contender m c e ≡ true)
         go true h true l = unfold Settles ahead in on-core (ltb-true _ _ h) (coreAt m c .active) (coreAt m c .zombie) (ltb (ahead (ltb-true _ _ h)) 16) refl refl refl
         go true h false l = absurd (omega (arith, ltb-false 0 (m .objects) l, stands m (f .is-sound) .some-objects))
-        go false h q l =
-            (settle-same 0 (Refused 4) ∙ commit-no-core w c (f .is-sound) (f .committed-long) (f .pending-long) _ (ltb-false _ _ h),
-            kinds-differ _ 11 (unfold kind in refl) (λ x. omega arith))
+        go false h q l = (
+          settle-same 0 (Refused 4) ∙ commit-no-core w c (f .is-sound) (f .committed-long) (f .pending-long) _ (ltb-false _ _ h),
+          kinds-differ _ 11 (unfold kind in refl) (λ x. omega arith),
+        )
 
     -- the same, of what code found and got
     pub by-commit-at : (to : Found) (e : ℕ) (r : Settled) → to ≡ found c 0 (m .cores) (m .objects)

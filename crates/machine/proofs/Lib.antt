@@ -6,7 +6,7 @@ pub mod CoreCalls
 pub mod CoreLists
 mod Facts
 pub mod Typed
-mod Front
+pub mod Front
 mod SetLoop
 pub mod CommitLaws
 mod SoundLaws

@@ -1,36 +1,31 @@
 -- The laws behind the soundness test: the rules that one core keeps, and the rules gathered core by core. Assumes nothing.
 use mathlib.Core.Path.{_≡_, refl, sym, ap, ap₂, _∙_}
 use mathlib.Core.Bool.{Bool, true, false, not, _&&_}
-use mathlib.Core.List.{List}
 use Prim.Native.Nat.{ℕ, _+_, _≤_, _<_}
 use native.Mathlib.Omega.{arith}
 use lib.Dec.{eqb, leb, ltb}
 use lib.ListN.{getD}
-use borrow.Author.Tests.{ltb-true, leb-true, lt-ltb, le-ltb, le-leb}
-use Rattle.objset.specs.Objset.{each, below}
-use Rattle.objset.proofs.Laws.{both-left, one-each}
+use borrow.Author.Tests.{le-leb, lt-leb}
+use Rattle.objset.specs.Objset.{each}
+use Rattle.objset.proofs.Laws.{one-each}
 use Rattle.machine.specs.declared.Machine.{Machine}
-use Rattle.core.specs.declared.Core.{Core}
-use Rattle.core.specs.declared.Job.{Job}
-use Rattle.core.specs.Parts.{noJob}
 use Rattle.machine.specs.Record.{coreAt, tally}
-use Rattle.core.specs.Tidy.{_⇒_, unused, tidy}
+use Rattle.core.specs.Tidy.{_⇒_, unused, tidy, blank}
 use Rattle.machine.specs.Sound.{ahead, sound}
 use Rattle.machine.specs.Sound.{inRange, setsWithin, ownerListed, idleClear, zombieEmpty, atMostEight}
 use Rattle.machine.specs.Sound.{unusedJobs, ownerFirst, lackedCores, versionsBounded, lackedObjects}
 use Rattle.machine.specs.Sound.{ticketsDiffer, ticketsGiven, abortsBounded, ticketsCounted}
-use Rattle.machine.proofs.Tally.{tally-bounded}
-use Rattle.core.proofs.TestLaws.{and-true, same-test, each-fails, each-all, gather}
-use Rattle.core.proofs.TestLaws.{if-true, true-if, both}
+use Rattle.core.proofs.Tidy.{blank-tidy}
+use Rattle.core.proofs.TestLaws.{and-true, same-test, both, each-fails, each-all, each-both, gather}
 use Rattle.machine.proofs.Sound.Passed.{passed, passed-all}
 
 -- ---- all cores
 
--- what lacked_blank tests of core c
+-- core c, if the machine lacks it, has no jobs and no transaction
 abbrev pub lackedAt : Machine → ℕ → Bool
 lackedAt m c = leb (m .cores) c ⇒ unused (coreAt m c)
 
--- what cores_tidy tests of core c
+-- what cores_kept tests of core c by itself
 abbrev pub tidyAt : Machine → ℕ → Bool
 tidyAt m c = tidy (m .objects) (coreAt m c) && lackedAt m c
 
@@ -45,11 +40,12 @@ cores-tidy m =
     gather 16 _ _ _
     (gather 16 _ _ _ (gather 16 _ _ _ (gather 16 _ _ _ (gather 16 _ _ _ (gather 16 _ _ _ (gather 16 _ _ _ refl))))))
 
-pub tidy-fails : (m : Machine) (c : ℕ) → c < 16 → tidyAt m c ≡ false → false ≡ tidyCores m
-tidy-fails m c l e = each-fails 16 (tidyAt m) c l e ∙ cores-tidy m
+-- by whether the machine has core c
+pub tidy-had : (m : Machine) (c : ℕ) → c < m .cores → tidyAt m c ≡ tidy (m .objects) (coreAt m c)
+tidy-had m c l = rw (lt-leb (m .cores) c l) (and-true (tidy (m .objects) (coreAt m c)))
 
-pub tidy-all : (m : Machine) (c : ℕ) → 16 ≤ c → c ≤ 16 → each c (tidyAt m) ≡ true → true ≡ tidyCores m
-tidy-all m c p q e = each-all 16 c (tidyAt m) p q e ∙ cores-tidy m
+pub tidy-lacked : (m : Machine) (c : ℕ) → m .cores ≤ c → tidyAt m c ≡ blank (coreAt m c)
+tidy-lacked m c l = rw (le-leb (m .cores) c l) (sym (blank-tidy (m .objects) (coreAt m c)))
 
 -- ---- versions
 
@@ -65,12 +61,6 @@ pub versions-bounded : (m : Machine) → each 64 (versionAt m) ≡ boundedVersio
 unfolding lackedObjects versionsBounded
 versions-bounded m = gather 64 _ _ _ refl
 
-pub version-fails : (m : Machine) (d : ℕ) → d < 64 → versionAt m d ≡ false → false ≡ boundedVersions m
-version-fails m d l e = each-fails 64 (versionAt m) d l e ∙ versions-bounded m
-
-pub versions-all : (m : Machine) (d : ℕ) → 64 ≤ d → d ≤ 64 → each d (versionAt m) ≡ true → true ≡ boundedVersions m
-versions-all m d p q e = each-all 64 d (versionAt m) p q e ∙ versions-bounded m
-
 -- ---- transactions in progress
 
 -- the ticket t differs from the one in progress on core e
@@ -81,7 +71,7 @@ differsFrom m t e = coreAt m e .active ⇒ not (eqb t (coreAt m e .ticket))
 abbrev pub turnOf : Machine → ℕ → ℕ → ℕ → Bool
 turnOf m c t b = each c (differsFrom m t) && ltb t (m .tickets) && ltb (b + ahead m t) (m .cores)
 
--- what turns_kept tests of core c
+-- what cores_kept tests of the transaction on core c
 abbrev pub turnAt : Machine → ℕ → Bool
 turnAt m c =
     each c (λ e. coreAt m c .active && coreAt m e .active ⇒ not (eqb (coreAt m c .ticket) (coreAt m e .ticket)))
@@ -103,53 +93,59 @@ pub turns-kept : (m : Machine) → each 16 (turnAt m) ≡ keptTurns m
 unfolding ticketsDiffer ticketsGiven abortsBounded
 turns-kept m = gather 16 _ _ _ (gather 16 _ _ _ refl)
 
--- a transaction that breaks them
-pub turn-fails : (m : Machine) (c : ℕ) → c < 16 → coreAt m c .active ≡ true
-    → turnOf m c (coreAt m c .ticket) (coreAt m c .aborts) ≡ false → false ≡ (keptTurns m && ticketsCounted m)
-turn-fails m c l on e =
-    ap (λ (b : Bool). b && ticketsCounted m) (each-fails 16 (turnAt m) c l (turn-on m c on ∙ e) ∙ turns-kept m)
-
 -- core c has a transaction in progress
 abbrev pub activeAt : Machine → ℕ → Bool
 activeAt m c = coreAt m c .active
 
+-- what cores_kept tests of core c
+abbrev pub keptAt : Machine → ℕ → Bool
+keptAt m c = tidyAt m c && turnAt m c
+
+-- the rules so tested, and the count
+abbrev pub keptCores : Machine → Bool
+keptCores m = tidyCores m && keptTurns m && ticketsCounted m
+
+cores-kept : (m : Machine) → each 16 (keptAt m) ≡ (tidyCores m && keptTurns m)
+cores-kept m = each-both 16 (tidyAt m) (turnAt m) ∙ ap₂ _&&_ (cores-tidy m) (turns-kept m)
+
+-- a core that breaks them
+pub kept-fails : (m : Machine) (c : ℕ) → c < 16 → {a b : Bool} → tidyAt m c ≡ a → turnAt m c ≡ b → (a && b) ≡ false → false ≡ keptCores m
+kept-fails m c l p q e =
+    ap (λ (x : Bool). x && ticketsCounted m) (each-fails 16 (keptAt m) c l (ap₂ _&&_ p q ∙ e) ∙ cores-kept m)
+
 -- where all keep them, what is left is the count
-pub turns-all : (m : Machine) (n c : ℕ) → 16 ≤ c → c ≤ 16 → n ≡ tally c (activeAt m) → each c (turnAt m) ≡ true
-    → eqb (m .tickets) (m .commits + m .«give_ups» + n) ≡ (keptTurns m && ticketsCounted m)
+pub kept-all : (m : Machine) (n c : ℕ) → 16 ≤ c → c ≤ 16 → n ≡ tally c (activeAt m) → each c (keptAt m) ≡ true
+    → eqb (m .tickets) (m .commits + m .«give_ups» + n) ≡ keptCores m
 unfolding ticketsCounted
-turns-all m n c p q e a =
+kept-all m n c p q e a =
     let s : c ≡ 16 = omega arith in
     ap₂ (λ (b : Bool) (x : ℕ). b && eqb (m .tickets) (m .commits + m .«give_ups» + x))
-    (each-all 16 c (turnAt m) p q a ∙ turns-kept m) (e ∙ ap (λ (x : ℕ). tally x (activeAt m)) s)
+    (each-all 16 c (keptAt m) p q a ∙ cores-kept m) (e ∙ ap (λ (x : ℕ). tally x (activeAt m)) s)
 
 -- core c has a transaction in progress with a ticket smaller than t
 abbrev pub aheadAt : Machine → ℕ → ℕ → Bool
 aheadAt m t c = coreAt m c .active && ltb (coreAt m c .ticket) t
 
-pub ahead-all : (m : Machine) (t n c : ℕ) → 16 ≤ c → c ≤ 16 → n ≡ tally c (aheadAt m t) → n ≡ ahead m t
+pub ahead-all : (m : Machine) (t n b c : ℕ) → 16 ≤ c → c ≤ 16 → n ≡ b + tally c (aheadAt m t) → n ≡ b + ahead m t
 unfolding ahead
-ahead-all m t n c p q e = let s : c ≡ 16 = omega arith in e ∙ ap (λ (x : ℕ). tally x (aheadAt m t)) s
-
-pub ahead-few : (m : Machine) (t : ℕ) → ahead m t ≤ 16
-unfolding ahead
-ahead-few m t = tally-bounded 16 (aheadAt m t)
+ahead-all m t n b c p q e = let s : c ≡ 16 = omega arith in e ∙ ap (λ (x : ℕ). b + tally x (aheadAt m t)) s
 
 -- ---- the record
 
--- the four groups of rules are all of them
-pub sound-parts : (m : Machine) → (inRange m && tidyCores m && boundedVersions m && (keptTurns m && ticketsCounted m)) ≡ sound m
+-- the three groups of rules are all of them
+pub sound-parts : (m : Machine) → (inRange m && boundedVersions m && keptCores m) ≡ sound m
 sound-parts m = same-test _ (sound m) to from
   where
-    to : (inRange m && tidyCores m && boundedVersions m && (keptTurns m && ticketsCounted m)) ≡ true → sound m ≡ true
+    to : (inRange m && boundedVersions m && keptCores m) ≡ true → sound m ≡ true
     to e =
-        let t = both _ (keptTurns m && ticketsCounted m) e in
-        let v = both _ (boundedVersions m) (t .0) in
-        let c = both (inRange m) (tidyCores m) (v .0) in
-        let t1 = both (keptTurns m) (ticketsCounted m) (t .1) in
-        let t2 = both _ (abortsBounded m) (t1 .0) in
+        let k = both _ (keptCores m) e in
+        let v = both (inRange m) (boundedVersions m) (k .0) in
+        let t1 = both (tidyCores m && keptTurns m) (ticketsCounted m) (k .1) in
+        let c = both (tidyCores m) (keptTurns m) (t1 .0) in
+        let t2 = both _ (abortsBounded m) (c .1) in
         let t3 = both (ticketsDiffer m) (ticketsGiven m) (t2 .0) in
         let v1 = both (versionsBounded m) (lackedObjects m) (v .1) in
-        let c7 = both _ (lackedCores m) (c .1) in
+        let c7 = both _ (lackedCores m) (c .0) in
         let c6 = both _ (ownerFirst m) (c7 .0) in
         let c5 = both _ (unusedJobs m) (c6 .0) in
         let c4 = both _ (atMostEight m) (c5 .0) in
@@ -158,7 +154,7 @@ sound-parts m = same-test _ (sound m) to from
         let c1 = both (setsWithin m) (ownerListed m) (c2 .0) in
         passed-all m
         (record {
-          passed-in-range = c .0;
+          passed-in-range = v .0;
           passed-sets-within = c1 .0;
           passed-owner-listed = c1 .1;
           passed-idle-clear = c2 .1;
@@ -175,7 +171,7 @@ sound-parts m = same-test _ (sound m) to from
           passed-aborts-bounded = t2 .1;
         })
 
-    from : sound m ≡ true → (inRange m && tidyCores m && boundedVersions m && (keptTurns m && ticketsCounted m)) ≡ true
+    from : sound m ≡ true → (inRange m && boundedVersions m && keptCores m) ≡ true
     from s =
         let p = passed m s in
         rw (
@@ -197,20 +193,15 @@ sound-parts m = same-test _ (sound m) to from
         )
 
 module _ (m : Machine) where
-  four : {a b c d : Bool} → inRange m ≡ a → tidyCores m ≡ b → boundedVersions m ≡ c → (keptTurns m && ticketsCounted m) ≡ d
-      → (a && b && c && d) ≡ sound m
-  four a b c d = sym (ap₂ _&&_ (ap₂ _&&_ (ap₂ _&&_ a b) c) d) ∙ sound-parts m
+  three : {a b c : Bool} → inRange m ≡ a → boundedVersions m ≡ b → keptCores m ≡ c → (a && b && c) ≡ sound m
+  three a b c = sym (ap₂ _&&_ (ap₂ _&&_ a b) c) ∙ sound-parts m
 
   -- by the first group that fails, or by the last
   pub out-of-range : inRange m ≡ false → false ≡ sound m
-  out-of-range a = four a refl refl refl
+  out-of-range a = three a refl refl
 
-  pub untidy : inRange m ≡ true → tidyCores m ≡ false → false ≡ sound m
-  untidy a b = four a b refl refl
+  pub unbounded : inRange m ≡ true → boundedVersions m ≡ false → false ≡ sound m
+  unbounded a b = three a b refl
 
-  pub unbounded : inRange m ≡ true → tidyCores m ≡ true → boundedVersions m ≡ false → false ≡ sound m
-  unbounded a b c = four a b c refl
-
-  pub by-turns : {r : Bool} → inRange m ≡ true → tidyCores m ≡ true → boundedVersions m ≡ true
-      → r ≡ (keptTurns m && ticketsCounted m) → r ≡ sound m
-  by-turns a b c d = d ∙ four a b c refl
+  pub by-cores : {r : Bool} → inRange m ≡ true → boundedVersions m ≡ true → r ≡ keptCores m → r ≡ sound m
+  by-cores a b d = d ∙ three a b refl

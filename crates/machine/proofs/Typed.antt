@@ -32,8 +32,8 @@ core-formed k vs p =
     let fields = p .1 .1 in
     record {
       jobs-long = sym (length-map (k .jobs) _) ∙ fields .0 .1 .0 .1;
-      reads-fit = fields .1 .1 .1 .1 .1 .1 .1 .0 .1;
-      writes-fit = fields .1 .1 .1 .1 .1 .1 .1 .1 .0 .1;
+      reads-fit = fields .1 .1 .1 .1 .1 .1 .0 .1;
+      writes-fit = fields .1 .1 .1 .1 .1 .1 .1 .0 .1;
     }
 
 pub machine-formed : (m : Machine) (vs : List Val) → Is (MachineType.the-field .row) (MachineType.the-field .into m) vs → Formed m

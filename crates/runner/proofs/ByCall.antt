@@ -21,18 +21,18 @@ use Rattle.script.specs.declared.Call.the-variants as Call
 use Rattle.script.proofs.Call as CallType
 use Rattle.listing.specs.Text.{said}
 use Rattle.runner.specs.Kept.{held}
-use Rattle.runner.specs.Listing.{Request, Asks, request, met, called, nothing}
+use Rattle.runner.specs.Listing.{Request, Anew, Asks, request, met, called, nothing}
 use Rattle.runner.proofs.Setups as Setups
 use Rattle.runner.proofs.Acts.{Done, acted}
 
 -- a script's call is the rule's
-abbrev ByCall : Machine → List ℕ → List ℕ → Call → Outcome → List ℕ → List ℕ → Type 0
+abbrev pub ByCall : Machine → List ℕ → List ℕ → Call → Outcome → List ℕ → List ℕ → Type 0
 ByCall m cs ps call r cs′ ps′ = Done cs ps (called (held m cs ps) call) r cs′ ps′
 
 module _ (m : Machine) (cs ps : List ℕ) (call : Call) (r : Outcome) (cs′ ps′ : List ℕ) where
-  pub setup-done : (cores cards : ℕ) → call ≡ Call.Setup cores cards → Setups.Done cs ps cores cards r cs′ ps′ → ByCall m cs ps call r cs′ ps′
-  unfolding met request
-  setup-done cores cards e d = subst (λ (x : Call). ByCall m cs ps x r cs′ ps′) (sym e) (ap said (d .0), d .1)
+  pub setup-done : (cores cards : ℕ) → request call ≡ Anew cores cards → Setups.Done cs ps cores cards r cs′ ps′ → ByCall m cs ps call r cs′ ps′
+  unfolding met
+  setup-done cores cards e d = subst (λ (x : Request). Done cs ps (met (held m cs ps) x) r cs′ ps′) (sym e) (ap said (d .0), d .1)
 
 module _ (m : Machine) (cs ps : List ℕ) (g : Good (held m cs ps)) (cl : length cs ≡ 64) (pl : length ps ≡ 1024) (call : Call) (r : Outcome) where
   abbrev dl : ℕ

@@ -4,6 +4,7 @@ mod Setups
 mod Acts
 mod Sizes
 mod ByCall
+mod InPlace
 mod LineLaws
 mod Stepping
 mod Written

@@ -1,23 +1,12 @@
 -- What the types of the code say of a reading, whatever its fields hold, as `Typed` of machine does of a record. Assumes nothing.
 use mathlib.Core.Path.{_≡_, sym, _∙_}
-use mathlib.Core.List.{List, [], _∷_, map}
-use Prim.Native.Nat.{ℕ, zero, suc, _<_}
-use native.Mathlib.Omega.{arith}
-use lib.ListN.{length, getD, length-map}
+use mathlib.Core.List.{List}
+use lib.ListN.{length, length-map}
 use mir.Val.{Val}
-use denote.Shadow.{shadow}
 use denote.Laws.{Is}
-use denote.Array.{each}
-use denote.Struct.Field.{Field}
 use denote.Struct.Declared.{row}
-use Rattle.machine.specs.declared.Machine.{Machine}
-use Rattle.core.specs.declared.Core.{Core}
-use Rattle.core.specs.Parts.{noCore}
-use Rattle.machine.specs.Record.{coreAt}
-use Rattle.core.specs.Formed.{Formed-core}
 use Rattle.machine.specs.Inside.{Formed}
-use Rattle.machine.proofs.Machine as MachineType
-use Rattle.machine.proofs.Core as CoreType
+use Rattle.machine.proofs.Typed.{machine-formed}
 use Rattle.runner.specs.declared.Reading.{Reading}
 use Rattle.runner.proofs.Reading as ReadingType
 

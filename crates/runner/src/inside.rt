@@ -2,14 +2,21 @@
 // No test of the record is made; the doors in lib.rt test, and then call these.
 use crate::Fed;
 use crate::Reading;
+use crate::calls::Asked;
+use crate::calls::asked_by;
 use crate::calls::set_up;
 use crate::lines::Ended;
 use crate::lines::end_line;
-use machine::inside::access;
-use machine::inside::commit;
-use machine::inside::jobs;
-use machine::inside::transaction;
-use script::Call;
+use core::calls::Seen;
+use core::calls::act_on;
+use core::calls::object_of;
+use core::calls::settle;
+use core::inside::transaction::abort;
+use core::inside::transaction::holds_back;
+use core::inside::transaction::is_struck;
+use machine::inside::calls::find;
+use machine::inside::commit::reach_of;
+use machine::inside::commit::write_back;
 ghost use mathlib.Core.Path.{_≡_};
 ghost use mathlib.Core.Bool.{_||_};
 ghost use lib.Dec.{eqb, ltb};
@@ -21,7 +28,8 @@ ghost use Rattle.runner.specs.Kept.{Fit, rest, state, fed, finished};
 // The next bytes of the script. The output needs 32 bytes for each of them; what is written is what the chunk adds to the listing, and
 // the bytes after it keep what they held. What is kept, with every word of both tables, is what `fed` says.
 //
-// The calls are made in the loop itself: the record goes by value, and a function between the loop and a call would copy it in and out.
+// The calls are made in the loop itself, on the core that they concern: a function between the loop and a call would copy the record in
+// and out.
 pub fn feed(
     r: Reading,
     chunk: &[u8],
@@ -57,38 +65,73 @@ pub fn feed(
                 );
                 match ended {
                     Ended::Calls(call) => {
-                        let d = machine.objects as usize;
-                        let n = machine.cores as usize * d;
-                        let done = match call {
-                            Call::Setup(cores, cards) => set_up(cores, cards, committed, pending),
-                            Call::Release(core, job, deadline) => {
-                                jobs::release(machine, core, job, deadline)
+                        let asked = asked_by(call);
+                        let answer = match asked {
+                            Asked::Anew(cores, cards) => {
+                                let done = set_up(cores, cards, committed, pending);
+                                machine = done.machine;
+                                done.answer
                             }
-                            Call::Begin(core) => transaction::begin(machine, core),
-                            Call::Read(core, card) => {
-                                access::read(machine, core, card, &committed[..d], &pending[..n])
+                            Asked::Commit(core) => {
+                                let objects = machine.objects as usize;
+                                let words = machine.cores as usize * objects;
+                                let to = find(core, 0, machine.cores, machine.objects);
+                                let c = to.core;
+                                let k = machine.core[c];
+                                let mut ahead: u8 = 16;
+                                let mut rival = machine.cores;
+                                while 0 < rival {
+                                    rival -= 1;
+                                    let other = machine.core[rival as usize];
+                                    if holds_back(other, k) {
+                                        ahead = rival;
+                                    }
+                                }
+                                let done = settle(to.refusal, k, ahead);
+                                let after = done.core;
+                                machine.core[c] = after;
+                                machine.commits = machine.commits + done.commits;
+                                let ws = done.writes;
+                                write_back(
+                                    ws,
+                                    c * objects,
+                                    &mut committed[..objects],
+                                    &pending[..words],
+                                    &mut machine.versions,
+                                );
+                                let mut e: usize = 0;
+                                let reach = reach_of(ws);
+                                while e < reach {
+                                    let other = machine.core[e];
+                                    if is_struck(ws, other) {
+                                        machine.core[e] = abort(other);
+                                    }
+                                    e += 1;
+                                }
+                                done.answer
                             }
-                            Call::Write(core, card, value) => access::write(
-                                machine,
-                                core,
-                                card,
-                                value,
-                                &committed[..d],
-                                &mut pending[..n],
-                            ),
-                            Call::Commit(core) => {
-                                commit::commit(
-                                    machine,
-                                    core,
-                                    &mut committed[..d],
-                                    &mut pending[..n],
-                                )
+                            Asked::One(core, act) => {
+                                let to = find(core, object_of(act), machine.cores, machine.objects);
+                                let c = to.core;
+                                let d = to.object;
+                                let at = c * machine.objects as usize + d;
+                                let k = machine.core[c];
+                                let seen = Seen {
+                                    tickets: machine.tickets,
+                                    give_ups: machine.give_ups,
+                                    committed: committed[d],
+                                    pending: pending[at],
+                                    version: machine.versions[d],
+                                };
+                                let done = act_on(to.refusal, act, k, seen);
+                                let after = done.core;
+                                machine.core[c] = after;
+                                machine.tickets = done.tickets;
+                                machine.give_ups = done.give_ups;
+                                pending[at] = done.pending;
+                                done.answer
                             }
-                            Call::GiveUp(core) => transaction::give_up(machine, core),
-                            Call::Finish(core) => jobs::finish(machine, core),
                         };
-                        machine = done.machine;
-                        let answer = done.answer;
                         written += listing::put_line(number, answer, &mut output[written..]);
                     }
                     Ended::Lists(listed) => {

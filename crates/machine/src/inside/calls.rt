@@ -71,13 +71,7 @@ pub fn alone(mut m: Machine, core: u32, a: Act) -> Outcome
 }
 
 // A call that is lent the tables: read, write.
-pub fn access(
-    mut m: Machine,
-    core: u32,
-    a: Act,
-    committed: &[u32],
-    pending: &mut [u32],
-) -> Outcome
+pub fn access(mut m: Machine, core: u32, a: Act, committed: &[u32], pending: &mut [u32]) -> Outcome
     requires { ⌜ Fine (lent m (now committed) (now pending)) ⌝ }
     ensures { λ r. ⌜ left r (now (committed .entry)) (now (pending .exit)) ≡ rule 0 (lent m (now (committed .entry)) (now (pending .entry))) (callOf a core) ⌝ }
 {

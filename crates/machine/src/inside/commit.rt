@@ -9,7 +9,8 @@ use core::inside::transaction::abort;
 use core::inside::transaction::holds_back;
 use core::inside::transaction::is_struck;
 ghost use mathlib.Core.Path.{_≡_};
-ghost use mathlib.Core.Bool.{true};
+ghost use mathlib.Core.Bool.{true, cond};
+ghost use lib.Dec.{eqb};
 ghost use Prim.Native.Nat.{ℕ, _+_, _≤_, _<_};
 ghost use lib.ListN.{length, getD};
 ghost use Rattle.objset.specs.Objset.{has};
@@ -63,6 +64,13 @@ pub fn write_back(
         rest = rest / 2;
         d += 1;
     }
+}
+
+// How many cores a commit of the write set ws looks at: none where it is empty.
+pub fn reach_of(ws: u64) -> usize
+    ensures { λ r. ⌜ r ≡ cond (eqb ws 0) 0 16 ⌝ }
+{
+    if ws == 0 { 0 } else { 16 }
 }
 
 // The cores after a commit of the write set ws, whose own core has no transaction any more: each transaction that ws strikes is aborted.

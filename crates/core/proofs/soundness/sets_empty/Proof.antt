@@ -1,13 +1,19 @@
--- `core::soundness::sets_empty` meets its contract. Assumes nothing.
-use borrow.Author.Tests.{eq-eqb, ne-eqb}
+-- `core::soundness::sets_empty` meets its contract: both sets together are empty. Assumes nothing.
+use mathlib.Core.Path.{_∙_, ap}
+use Prim.Native.Nat.{ℕ}
+use borrow.Author.Needs.{needs}
+use lib.Dec.{eqb}
+use Rattle.core.proofs.TidyLaws.{joined-zero}
 use Rattle.core.proofs.soundness.sets_empty.Statement.{statement}
 use Rattle.core.proofs.soundness.sets_empty.Tie as tie
 
-returns : tie.Need-returns
-returns c = rw (ne-eqb _ _ (c .if1 .taken))
+union-requires : tie.Need-union-requires
+union-requires c κs = search needs
 
-returns-2 : tie.Need-returns-2
-returns-2 c = rw (eq-eqb _ _ (c .before .if1 .left))
+returns : tie.Need-returns
+returns c =
+    ap (λ (s : ℕ). eqb s 0) (c .union .ensures)
+    ∙ joined-zero (c .before .args .k .reads) (c .before .args .k .writes) (search needs) (search needs)
 
 pub sets-empty-spec : {M : Type 1} → statement M
-sets-empty-spec = tie.close (tie.spec returns returns-2)
+sets-empty-spec = tie.close (tie.spec union-requires returns)

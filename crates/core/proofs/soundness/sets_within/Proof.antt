@@ -1,20 +1,22 @@
--- `core::soundness::sets_within` meets its contract. Assumes nothing.
+-- `core::soundness::sets_within` meets its contract: both sets together lie within the objects. Assumes nothing.
+use mathlib.Core.Path.{_∙_, ap}
+use Prim.Native.Nat.{ℕ}
 use borrow.Author.Needs.{needs}
-use Rattle.core.proofs.TestLaws.{holds, breaks}
+use Rattle.objset.specs.Objset.{below}
+use Rattle.core.proofs.TidyLaws.{joined-below}
 use Rattle.core.proofs.soundness.sets_within.Statement.{statement}
 use Rattle.core.proofs.soundness.sets_within.Tie as tie
+
+union-requires : tie.Need-union-requires
+union-requires c κs = search needs
 
 within-requires : tie.Need-within-requires
 within-requires c κs = search needs
 
 returns : tie.Need-returns
-returns c = rw (breaks (c .before .within .ensures) (c .if1 .taken))
-
-within-requires-2 : tie.Need-within-requires-2
-within-requires-2 c κs = search needs
-
-returns-2 : tie.Need-returns-2
-returns-2 c = rw (holds (c .before .before .within .ensures) (c .before .if1 .left)) (c .within2 .ensures)
+returns c =
+    c .within .ensures ∙ ap (λ (s : ℕ). below s (c .before .before .args .objects)) (c .before .union .ensures)
+    ∙ joined-below (c .before .before .args .k .reads) (c .before .before .args .k .writes) (search needs) (search needs) _
 
 pub sets-within-spec : {M : Type 1} → statement M
-sets-within-spec = tie.close (tie.spec within-requires returns within-requires-2 returns-2)
+sets-within-spec = tie.close (tie.spec union-requires within-requires returns)

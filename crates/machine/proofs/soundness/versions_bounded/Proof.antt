@@ -1,57 +1,65 @@
--- `machine::soundness::versions_bounded` meets its contract: every version passed is bounded. Assumes nothing.
-use mathlib.Core.Path.{_≡_, refl}
+-- `machine::soundness::versions_bounded` meets its contract: the answer is of the versions passed. Assumes nothing.
+use mathlib.Core.Path.{_≡_, refl, sym, ap, _∙_}
 use mathlib.Core.Bool.{Bool, true, false, _&&_}
-use Prim.Native.Nat.{ℕ, _-_, _≤_}
+use Prim.Native.Nat.{ℕ, _-_, _≤_, _<_}
 use native.Mathlib.Omega.{arith}
-use mathlib.Core.Logic.{⊎-elim}
+use mathlib.Core.Logic.{_⊎_, inl, inr, ⊎-elim}
 use lib.Dec.{leb}
 use lib.ListN.{getD}
 use borrow.Author.Needs.{needs}
 use borrow.Author.Tests.{le-leb, lt-leb, eq-eqb, ne-eqb}
 use Rattle.objset.specs.Objset.{each}
 use Rattle.machine.specs.declared.Machine.{Machine}
-use Rattle.core.proofs.TestLaws.{each-none, each-more}
-use Rattle.machine.proofs.SoundLaws.{versionAt, version-fails, versions-all}
+use Rattle.core.proofs.TestLaws.{each-fails, each-none, each-on}
+use Rattle.machine.proofs.SoundLaws.{versionAt, versions-bounded}
 use Rattle.machine.proofs.soundness.versions_bounded.Statement.{statement}
 use Rattle.machine.proofs.soundness.versions_bounded.Tie as tie
 
--- a place that the machine lacks holds zero, or it does not
-module _ (m : Machine) (d : ℕ) (l : m .objects ≤ d) where
-  lacked-holds : getD (m .versions) d 0 ≡ 0 → versionAt m d ≡ true
-  lacked-holds z = rw (le-leb _ _ l, eq-eqb _ _ z, le-leb (getD (m .versions) d 0) (m .commits) (omega (arith, z)))
+-- the most that the version of object d may be: the commits, or 0 where the machine lacks the object
+Most : Machine → ℕ → ℕ → Type 0
+Most m d most = ((d < m .objects) × (most ≡ m .commits)) ⊎ ((m .objects ≤ d) × (most ≡ 0))
 
-  lacked-fails : (getD (m .versions) d 0 ≡ 0 → ⊥) → versionAt m d ≡ false
-  lacked-fails h = rw (le-leb _ _ l, ne-eqb _ _ h) (and-false (leb (getD (m .versions) d 0) (m .commits)))
+module _ (m : Machine) (d most : ℕ) (at-most : Most m d most) where
+  version : ℕ
+  version = getD (m .versions) d 0
+
+  fits : version ≤ most → versionAt m d ≡ true
+  unfolding Most version
+  fits l =
+      ⊎-elim (λ w. rw (le-leb version (m .commits) (omega (arith, w .1)), lt-leb (m .objects) d (w .0)))
+      (λ w. rw (
+        le-leb version (m .commits) (omega (arith, w .1)),
+        le-leb (m .objects) d (w .0),
+        eq-eqb version 0 (omega (arith, w .1)),
+      )) at-most
+
+  exceeds : most < version → versionAt m d ≡ false
+  unfolding Most version
+  exceeds l =
+      ⊎-elim (λ w. rw (lt-leb version (m .commits) (omega (arith, w .1))))
+      (λ w. rw (le-leb (m .objects) d (w .0), ne-eqb version 0 (λ z. omega arith)) (and-false (leb version (m .commits)))) at-most
     where
       and-false : (b : Bool) → (b && false) ≡ false
       and-false true = refl
       and-false false = refl
 
 abbrev Inv-loop : tie.InvT-loop
-Inv-loop m objects versions d₀ d = (d ≤ 64) × (each d (versionAt m) ≡ true)
+Inv-loop m objects kept₀ d₀ kept d = (d ≤ 64) × (kept ≡ each d (versionAt m))
 
 abbrev μ-loop : tie.MeasureT-loop
-μ-loop m objects versions d₀ d = 64 - d
+μ-loop m objects kept₀ d₀ kept d = 64 - d
 
 cast-objects : tie.Need-cast-objects Inv-loop μ-loop
 cast-objects c = search needs
 
 loop-holds : tie.Need-loop-holds Inv-loop μ-loop
-loop-holds c = (omega arith, each-none _)
+loop-holds c = (omega arith, sym (each-none _))
 
-mul-v : tie.Need-mul-v Inv-loop μ-loop
-mul-v c = search needs
+mul-if2 : tie.Need-mul-if2 Inv-loop μ-loop
+mul-if2 c = search needs
 
-array-read-v : tie.Need-array-read-v Inv-loop μ-loop
-array-read-v c = search needs
-
-returns : tie.Need-returns Inv-loop μ-loop
-returns c = version-fails _ _ (c .before .before .before .loop-test .taken) (rw (lt-leb _ _ (c .if2 .taken)))
-
-returns-2 : tie.Need-returns-2 Inv-loop μ-loop
-returns-2 c =
-    let start = c .before .before .before .before .before .before in
-    version-fails _ _ (c .before .before .loop-test .taken) (lacked-fails (start .args .m) _ (c .before .if1 .left) (c .if3 .taken))
+element-copy-out-if2 : tie.Need-element-copy-out-if2 Inv-loop μ-loop
+element-copy-out-if2 c = search needs
 
 add-d : tie.Need-add-d Inv-loop μ-loop
 add-d c = search needs
@@ -60,16 +68,22 @@ loop-less : tie.Need-loop-less Inv-loop μ-loop
 loop-less c = search needs
 
 loop-again : tie.Need-loop-again Inv-loop μ-loop
+unfolding Most version
 loop-again c =
-    let start = c .before .before .before .before .before in (
+    let l = c .before .before .before .before in
+    let m = l .before .args .t1 in
+    let most = c .before .before .if1 in
+    let at-most : Most m (l .loop .d) (most .most) = ⊎-elim (λ w. inl (w .0 .taken, w .1)) (λ w. inr (w .0 .left, w .1)) (most .came) in (
       omega arith,
-      each-more _ _ (c .before .before .loop .inv .1)
-          (⊎-elim (λ w. rw (le-leb _ _ (w .2 .left), lt-leb _ _ (w .0 .taken))) (λ w. lacked-holds (start .args .m) _ (w .0 .left) (w .1 .left))
-          (c .if1 .came)),
+      ⊎-elim (λ w. w .1 ∙ each-fails _ (versionAt m) (l .loop .d) (omega arith) (exceeds m _ _ at-most (w .0 .taken)))
+          (λ w. w .1 ∙ l .loop .inv .1 ∙ each-on (l .loop .d) (versionAt m) (fits m _ _ at-most (w .0 .left))) (c .if2 .came),
     )
 
-returns-3 : tie.Need-returns-3 Inv-loop μ-loop
-returns-3 c = versions-all _ _ (c .loop-test .left) (c .before .loop .inv .0) (c .before .loop .inv .1)
+returns : tie.Need-returns Inv-loop μ-loop
+returns c =
+    let l = c .before in
+    let m = l .before .args .t1 in
+    l .loop .inv .1 ∙ ap (λ (x : ℕ). each x (versionAt m)) (omega arith) ∙ versions-bounded m
 
 pub versions-bounded-spec : {M : Type 1} → statement M
 versions-bounded-spec =
@@ -79,11 +93,9 @@ versions-bounded-spec =
     μ-loop
     cast-objects
     loop-holds
-    mul-v
-    array-read-v
-    returns
-    returns-2
+    mul-if2
+    element-copy-out-if2
     add-d
     loop-less
     loop-again
-    returns-3)
+    returns)

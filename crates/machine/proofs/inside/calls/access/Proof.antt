@@ -89,7 +89,7 @@ same-length : tie.Need-same-length
 same-length c = search needs
 
 returns : tie.Need-returns
-returns c = 
+returns c =
     let at = c .before .before .before .before .before .before in
     let start = at .before .before .before .before in
     by-core-at _ (start .pre) (start .args .a) (start .args .core) _ (at .find .result) _ (c .before .act-on .result) (at .before .object-of .ensures) (at .find .ensures) refl (c .before .act-on .ensures)

@@ -52,7 +52,7 @@ element-set-from-after : tie.Need-element-set-from-after
 element-set-from-after c = there (c .before .before .before .before)
 
 returns : tie.Need-returns
-returns c = 
+returns c =
     let at = c .before .before .before .before in
     let start = at .before .before in
     let m = start .args .t1 in

@@ -55,13 +55,13 @@ cast-write-back : tie.Need-cast-write-back
 cast-write-back c = search needs
 
 mul-write-back : tie.Need-mul-write-back
-mul-write-back c = 
+mul-write-back c =
     let at = c .before .before .before .before .before in
     let m = at .before .before .before .args .t1 in
     record { fits = omega (arith, row-within (at .find .result .core) (m .cores) (m .objects) (here at), few-words m (at .before .before .before .pre .is-sound) _ _ _ (at .find .ensures)) }
 
 write-back-requires : tie.Need-write-back-requires
-write-back-requires c κs = 
+write-back-requires c κs =
     let done = c .before .before .before .before .before in
     let at = done .before .before .before in
     let start = at .before .before .before in
@@ -87,7 +87,7 @@ same-length-2 : tie.Need-same-length-2
 same-length-2 c = search needs
 
 returns : tie.Need-returns
-returns c = 
+returns c =
     let moved = c .before .before .before .before .write-back .ensures in
     let done = c .before .before .before .before .before .before .before .before .before .before in
     let at = done .before .before .before in

@@ -17,7 +17,7 @@ use Rattle.machine.proofs.inside.commit.write_back.Statement.{statement
 use Rattle.machine.proofs.inside.commit.write_back.Tie as tie
 
 abbrev Inv-loop : tie.InvT-loop
-Inv-loop ws base committed₀ pending versions₀ rest₀ d₀ committed versions rest d = 
+Inv-loop ws base committed₀ pending versions₀ rest₀ d₀ committed versions rest d =
     Rest ws d rest
     × (Stands d (changed ws (λ e v. getD pending (base + e) 0) 0 committed₀) committed₀ committed
     × Stands d (changed ws (λ e v. v + 1) 0 versions₀) versions₀ versions)
@@ -90,7 +90,7 @@ loop-less : tie.Need-loop-less Inv-loop μ-loop
 loop-less c = omega (arith, c .before .loop-test .taken)
 
 loop-again : tie.Need-loop-again Inv-loop μ-loop
-loop-again c = 
+loop-again c =
     let start = c .before .before .before in
     let at = c .before .before .loop in
     let moved : ℕ → ℕ → ℕ = λ d v. getD (start .args .pending .now) (start .args .base + d) 0 in (
@@ -113,7 +113,7 @@ same-length : tie.Need-same-length Inv-loop μ-loop
 same-length c = c .before .loop .inv .1 .0 .0
 
 returns : tie.Need-returns Inv-loop μ-loop
-returns c = 
+returns c =
     let start = c .before .before in
     let at = c .before .loop in (
       changed-done (start .args .ws) _ (start .args .committed .now) (at .d) (at .committed) (at .inv .1 .0) (λ d l p. past c d p),
