@@ -1,5 +1,7 @@
 #!/usr/bin/env bash
-# Instructions per call, counted by callgrind: prints the tables of docs/BENCHMARKS.md. The same numbers on every run.
+# Instructions per call, counted by callgrind: prints the tables of docs/BENCHMARKS.md. The same numbers on every run. "inside" is a call
+# in place: the loop over the list holds the record, takes the call's core out, makes the call on it and puts it back. "no call" is what
+# the loop itself costs, for a number that is no call.
 set -eu
 cd "$(dirname "$0")/.."
 tests/tool.sh rt cargo gcc valgrind
@@ -31,9 +33,14 @@ same_answer() {
   cmp -s "$out/answer.$2" "$out/answer.$3" || { echo "calls.sh: $1: $2 and $3 answer differently" >&2; exit 1; }
 }
 
+# times A B: A over B, to two places
+times() {
+  awk -v a="$1" -v b="$2" 'BEGIN { printf "%.2f", a / b }'
+}
+
 # the table of a machine of $1 cores
 table() {
-  local cores=$1 call door inside reference tested test idle reference_test reference_idle inside_none door_none reference_none
+  local cores=$1 call door inside reference tested alone test idle reference_test reference_idle inside_none door_none reference_none
   door_none=$(turn door "$cores" none)
   inside_none=$(turn inside "$cores" none)
   reference_none=$(turn reference "$cores" none)
@@ -44,24 +51,25 @@ table() {
   echo
   echo "### Cores: $cores, cards: 64"
   echo
-  echo "| call | inside | reference | reference less its test | door | door's extra |"
-  echo "|---|---:|---:|---:|---:|---:|"
+  echo "| call | inside | reference | reference less its test | inside / reference less its test | door | door's extra |"
+  echo "|---|---:|---:|---:|---:|---:|---:|"
   for call in setup release begin read write commit give-up finish; do
     door=$(($(turn door "$cores" $call) - door_none))
     reference=$(($(turn reference "$cores" $call) - reference_none))
     same_answer $call door reference
     if [ $call = setup ]; then
-      echo "| $call | | $reference | | $door | |"
+      echo "| $call | | $reference | | | $door | |"
     else
       inside=$(($(turn inside "$cores" $call) - inside_none))
       same_answer $call door inside
       case $call in release | begin | finish) tested=$reference_idle ;; *) tested=$reference_test ;; esac
-      echo "| $call | $inside | $reference | $((reference - tested)) | $door | $((door - inside)) |"
+      alone=$((reference - tested))
+      echo "| $call | $inside | $reference | $alone | $(times "$inside" "$alone") | $door | $((door - inside)) |"
     fi
   done
-  echo "| no call, the record handed on | $(($(turn inside "$cores" test) - inside_none)) | | | | |"
-  echo "| soundness test, core 0 idle | | $reference_idle | | $idle | |"
-  echo "| soundness test, core 0 in a transaction | | $reference_test | | $test | |"
+  echo "| no call | $(($(turn inside "$cores" test) - inside_none)) | | | | | |"
+  echo "| soundness test, core 0 idle | | $reference_idle | | | $idle | |"
+  echo "| soundness test, core 0 in a transaction | | $reference_test | | | $test | |"
 }
 
 for cores in 1 4 16; do table $cores; done

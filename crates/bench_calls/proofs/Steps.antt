@@ -1,18 +1,28 @@
 -- One call of a list, by the promise of the function that makes it. Assumes nothing.
 use mathlib.Core.Path.{_≡_, refl, sym, ap, subst, _∙_}
 use mathlib.Core.Bool.{Bool, true, false, cond}
-use mathlib.Core.List.{List, [], _∷_}
-use Prim.Native.Nat.{ℕ, zero, suc, _+_, _/_}
+use mathlib.Core.List.{List, _++_}
+use Prim.Native.Nat.{ℕ, zero, suc, _+_, _/_, _≤_, _<_}
 use lib.Dec.{eqb}
+use lib.ListN.{length, set, take, drop}
 use borrow.Author.Tests.{ne-eqb}
 use Rattle.machine.specs.Record.{coreAt}
-use Rattle.machine.specs.Rule.{World, Result, lent, left, rule, setup, release, begin, read, write, commit, giveUp, finish, commitRefusal, unlessLent, told, waiting, through, blocked}
+use Rattle.machine.specs.Rule.{World, Result, lent, left, rule, Release, Begin, Read, Write, Commit, GiveUp, Finish, setup, release, begin, read, write, commit, giveUp, finish, commitRefusal, unlessLent, told, waiting, through, blocked, changed, moved}
 use Rattle.machine.specs.Answers.{named}
 use Rattle.machine.specs.Sound.{sound}
 use Rattle.machine.specs.declared.Machine.{Machine}
 use Rattle.machine.specs.declared.Outcome.{Outcome}
 use Rattle.core.specs.declared.Answer.the-variants.{Ready, Refused}
-use Rattle.bench_calls.specs.Lists.{numberOf, called, tested, door}
+use Rattle.machine.specs.OneCore.{callOf, strikes, settled}
+use Rattle.machine.proofs.CoreLists.{strikes-next, strikes-hit, strikes-missed, strikes-done}
+use Rattle.core.specs.Life.{isStruck, aborted}
+use Rattle.core.specs.declared.calls.Settled.{Settled}
+use Rattle.core.specs.declared.calls.Act.the-variants as Act
+use Rattle.core.specs.declared.Core.{Core}
+use Rattle.core.specs.declared.calls.Act.{Act}
+use Rattle.bench_calls.specs.declared.Ask.{Ask}
+use Rattle.bench_calls.specs.declared.Ask.the-variants as Ask
+use Rattle.bench_calls.specs.Lists.{numberOf, called, askedOf, tested, door}
 
 -- what a call left is this, but for the core that waits names
 abbrev pub Left : Result → Outcome → List ℕ → List ℕ → Type 0
@@ -44,6 +54,13 @@ commit-alike e w c = refused (commitRefusal w c) (coreAt (w .machine) c .zombie)
 -- a call that is lent both tables
 by-result : (e : Result) (r : Outcome) (cs ps : List ℕ) → left r cs ps ≡ e → Left e r cs ps
 by-result e r cs ps p = (ap (λ (x : Result). numberOf (x .answer)) p, ap (λ (x : Result). x .world) p)
+
+-- commit, whose answer may name another core
+by-commit : (w : World) (c : ℕ) (r : Outcome) (cs ps : List ℕ) → left r cs ps ≡ commit (named (r .answer)) w c → Left (commit 0 w c) r cs ps
+by-commit w c r cs ps p =
+    let l = by-result (commit (named (r .answer)) w c) r cs ps p in
+    let alike = commit-alike (named (r .answer)) w c in
+    (l .0 ∙ alike .0, l .1 ∙ alike .1)
 
 -- a call that is lent none
 by-outcome : (o r : Outcome) (cs ps : List ℕ) → r ≡ o → Left (left o cs ps) r cs ps
@@ -80,10 +97,7 @@ module _ (other : Result) (m : Machine) (cs ps : List ℕ) (call c : ℕ) (r : O
         subst (λ (n : ℕ). Left (called other w n c) r cs′ ps′) (sym e) (unfold called rule in by-result (write w c c 5) r cs′ ps′ p)
 
     pub commit-done : call ≡ 7 → left r cs′ ps′ ≡ commit (named (r .answer)) w c → Left (called other w call c) r cs′ ps′
-    commit-done e p =
-        let l = by-result (commit (named (r .answer)) w c) r cs′ ps′ p in
-        let alike = commit-alike (named (r .answer)) w c in
-        subst (λ (n : ℕ). Left (called other w n c) r cs′ ps′) (sym e) (unfold called rule in (l .0 ∙ alike .0, l .1 ∙ alike .1))
+    commit-done e p = subst (λ (n : ℕ). Left (called other w n c) r cs′ ps′) (sym e) (unfold called rule in by-commit w c r cs′ ps′ p)
 
 -- a public call: setup, and each of the others
 module _ (m : Machine) (cs ps : List ℕ) (call c : ℕ) (r : Outcome) (cs′ ps′ : List ℕ) where
@@ -112,3 +126,109 @@ no-call other m cs ps call c r p n3 n4 n5 n6 n7 n8 n9 =
 pub tested-left : (m : Machine) (cs ps : List ℕ) (r : Outcome) → r ≡ record { answer = cond (sound m) Ready (Refused 2); machine = m }
     → left r cs ps ≡ tested (lent m cs ps)
 tested-left m cs ps r p = ap (λ (x : Outcome). left x cs ps) p
+
+-- ---- a call in place
+
+-- what is asked for gives; no call gives `other`
+abbrev byAsk : Result → World → ℕ → Ask → Result
+byAsk other w c (Ask.One a) = rule 0 w (callOf a c)
+byAsk other w c Ask.Commit = rule 0 w (Commit c)
+byAsk other w c Ask.Nothing = other
+
+asked-gives : (other : Result) (w : World) (call c : ℕ) → byAsk other w c (askedOf call c) ≡ called other w call c
+unfolding called askedOf
+asked-gives other w call c = go (eqb call 3) (eqb call 4) (eqb call 5) (eqb call 6) (eqb call 7) (eqb call 8) (eqb call 9)
+  where
+    go : (three four five six seven eight nine : Bool)
+        → byAsk other w c
+        (cond three (Ask.One (Act.Release 7 100))
+        (cond four (Ask.One Act.Begin)
+        (cond five (Ask.One (Act.Read (c / 2 + 32)))
+        (cond six (Ask.One (Act.Write c 5)) (cond seven Ask.Commit (cond eight (Ask.One Act.GiveUp) (cond nine (Ask.One Act.Finish) Ask.Nothing)))))))
+        ≡ cond three (rule 0 w (Release c 7 100))
+        (cond four (rule 0 w (Begin c))
+        (cond five (rule 0 w (Read c (c / 2 + 32)))
+        (cond six (rule 0 w (Write c c 5))
+        (cond seven (rule 0 w (Commit c)) (cond eight (rule 0 w (GiveUp c)) (cond nine (rule 0 w (Finish c)) other))))))
+    go true four five six seven eight nine = refl
+    go false true five six seven eight nine = refl
+    go false false true six seven eight nine = refl
+    go false false false true seven eight nine = refl
+    go false false false false true eight nine = refl
+    go false false false false false true nine = refl
+    go false false false false false false true = refl
+    go false false false false false false false = refl
+
+module _ (other : Result) (m : Machine) (cs ps : List ℕ) (call c : ℕ) (r : Outcome) (cs′ ps′ : List ℕ) where
+  abbrev was : World
+  was = lent m cs ps
+
+  by-asked : (a : Ask) → askedOf call c ≡ a → Left (byAsk other was c a) r cs′ ps′ → Left (called other was call c) r cs′ ps′
+  by-asked a is = subst (λ (e : Result). Left e r cs′ ps′) (sym (ap (byAsk other was c) is) ∙ asked-gives other was call c)
+
+  pub one-done : (a : Act) → askedOf call c ≡ Ask.One a → left r cs′ ps′ ≡ rule 0 was (callOf a c) → Left (called other was call c) r cs′ ps′
+  one-done a is p = by-asked (Ask.One a) is (by-result (rule 0 was (callOf a c)) r cs′ ps′ p)
+
+  pub commit-asked : askedOf call c ≡ Ask.Commit → left r cs′ ps′ ≡ commit (named (r .answer)) was c → Left (called other was call c) r cs′ ps′
+  commit-asked is p = by-asked Ask.Commit is (unfold rule in by-commit was c r cs′ ps′ p)
+
+  pub nothing-asked : askedOf call c ≡ Ask.Nothing → left r cs′ ps′ ≡ other → Left (called other was call c) r cs′ ps′
+  nothing-asked is p = by-asked Ask.Nothing is (by-result other r cs′ ps′ p)
+
+-- ---- a commit in place
+
+-- the record with these cores
+abbrev withCores : Machine → List Core → Machine
+withCores m cores =
+    record { cores = m .cores; objects = m .objects; tickets = m .tickets; commits = m .commits; «give_ups» = m .«give_ups»; core = cores; versions = m .versions }
+
+-- the loop that strikes the cores stands at core e: those before it are struck, the others are as they were, and so is the rest of the
+-- record
+pub record Striking (ws : ℕ) (m₀ m : Machine) (e : ℕ) : Type 0 where
+  pub rest : m ≡ withCores m₀ (m .core)
+  pub long : length (m .core) ≡ length (m₀ .core)
+  pub struck : m .core ≡ take e (strikes ws (m₀ .core)) ++ drop e (m₀ .core)
+
+module _ (ws : ℕ) (m₀ m : Machine) (e : ℕ) (at : Striking ws m₀ m e) where
+  module _ (l : e < length (m₀ .core)) where
+    -- the core whose turn it is is as it was
+    pub striking-next : coreAt m e ≡ coreAt m₀ e
+    striking-next = strikes-next ws (m₀ .core) e (m .core) (at .long, at .struck) l
+
+    pub striking-hit : (k : Core) (n : Machine) → isStruck ws (coreAt m e) ≡ true → k ≡ aborted (coreAt m e) → n ≡ withCores m (set (m .core) e k)
+        → Striking ws m₀ n (e + 1)
+    striking-hit k n h is p =
+        let put = ap (λ (x : Machine). x .core) p ∙ ap (set (m .core) e) is in
+        let there = strikes-hit ws (m₀ .core) e (m .core) (at .long, at .struck) l (n .core) h put in
+        record {
+          rest = p ∙ ap (λ (x : Machine). withCores x (set (m .core) e k)) (at .rest) ∙ ap (λ (x : Machine). withCores m₀ (x .core)) (sym p);
+          long = there .0;
+          struck = there .1;
+        }
+
+    pub striking-missed : (n : Machine) → isStruck ws (coreAt m e) ≡ false → n ≡ m → Striking ws m₀ n (e + 1)
+    striking-missed n h p =
+        let there = strikes-missed ws (m₀ .core) e (m .core) (at .long, at .struck) l (n .core) h (ap (λ (x : Machine). x .core) p) in
+        record {
+          rest = p ∙ at .rest ∙ ap (λ (x : Machine). withCores m₀ (x .core)) (sym p);
+          long = there .0;
+          struck = there .1;
+        }
+
+  pub striking-done : length (m₀ .core) ≤ e → m ≡ withCores m₀ (strikes ws (m₀ .core))
+  striking-done h = at .rest ∙ ap (withCores m₀) (strikes-done ws (m₀ .core) e (m .core) (at .long, at .struck) h)
+
+-- what the commit left on its core put back, its write set carried out, and the cores struck
+pub carried-out : (w : World) (c : ℕ) (r : Settled) (cs versions : List ℕ) (m : Machine)
+    → cs ≡ changed (r .writes) (moved w c) 0 (w .committed) → versions ≡ changed (r .writes) (λ d v. v + 1) 0 (w .machine .versions)
+    → m ≡ record {
+      cores = w .machine .cores;
+      objects = w .machine .objects;
+      tickets = w .machine .tickets;
+      commits = w .machine .commits + r .commits;
+      «give_ups» = w .machine .«give_ups»;
+      core = strikes (r .writes) (set (w .machine .core) c (r .core));
+      versions = versions;
+    }
+    → left (record { answer = r .answer; machine = m }) cs (w .pending) ≡ settled w c r
+carried-out w c r cs versions m p q e = rw (e, p, q) refl

@@ -6,6 +6,9 @@ use lib.Dec.{eqb}
 use Rattle.machine.specs.declared.Machine.{Machine}
 use Rattle.core.specs.declared.Answer.{Answer}
 use Rattle.core.specs.declared.Answer.the-variants.{Ready, Running, Queued, Begun, Value, Written, Waits, Committed, SetBack, Ended, Finished, Refused}
+use Rattle.core.specs.declared.calls.Act.the-variants as Act
+use Rattle.bench_calls.specs.declared.Ask.{Ask}
+use Rattle.bench_calls.specs.declared.Ask.the-variants as Ask
 use Rattle.machine.specs.Answers.{kind}
 use Rattle.machine.specs.Sound.{sound}
 use Rattle.machine.specs.Rule.{World, Result, withMachine, setup, rule, Release, Begin, Read, Write, Commit, GiveUp, Finish}
@@ -38,6 +41,17 @@ called other w call c =
     (cond (eqb call 8) (rule 0 w (GiveUp c))
     (cond (eqb call 9) (rule 0 w (Finish c)) other))))))
 
+-- what such a number asks for, for core c
+unfoldable pub askedOf : ℕ → ℕ → Ask
+askedOf call c =
+    cond (eqb call 3) (Ask.One (Act.Release 7 100))
+    (cond (eqb call 4) (Ask.One Act.Begin)
+    (cond (eqb call 5) (Ask.One (Act.Read (c / 2 + 32)))
+    (cond (eqb call 6) (Ask.One (Act.Write c 5))
+    (cond (eqb call 7) Ask.Commit
+    (cond (eqb call 8) (Ask.One Act.GiveUp)
+    (cond (eqb call 9) (Ask.One Act.Finish) Ask.Nothing))))))
+
 -- the soundness test alone
 abbrev pub tested : World → Result
 tested w = record { answer = cond (sound (w .machine)) Ready (Refused 2); world = w }
@@ -47,7 +61,7 @@ unfoldable pub door : World → ℕ → ℕ → Result
 door w call c =
     cond (eqb call 2) (setup (w .machine .cores) (w .machine .objects) (w .committed) (w .pending)) (called (tested w) w call c)
 
--- an inside function; any other number changes nothing
+-- a call in place; any other number changes nothing
 abbrev pub inside : World → ℕ → ℕ → Result
 inside w call c = called (record { answer = Ready; world = w }) w call c
 
@@ -86,6 +100,6 @@ start r = after r (r .world .machine)
 unfoldable pub doorRun : Result → List ℕ → State
 doorRun made list = run door (start made) list
 
--- the same by the inside functions, if setup answers ready, the enum's first case
+-- the same in place, if setup answers ready, the enum's first case
 unfoldable pub insideRun : Result → List ℕ → State
 insideRun made list = cond (eqb (kind (made .answer)) 0) (run inside (start made) list) (start made)

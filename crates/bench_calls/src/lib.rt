@@ -1,19 +1,25 @@
-// Lists of calls on one machine, run through the public calls and through the inside functions, for bench/. A list is numbers: the
+// Lists of calls on one machine, run through the public calls and in place on the record, for bench/. A list is numbers: the
 // lower four bits say what is done, the rest is the core. What a list gives is specs/Lists.antt. Assumes nothing.
 use core::Answer;
+use core::calls::Act;
+use core::calls::Seen;
+use core::calls::act_on;
+use core::calls::object_of;
+use core::calls::settle;
+use core::inside::transaction::abort;
+use core::inside::transaction::is_struck;
 use machine::Machine;
 use machine::Outcome;
-use machine::inside::access;
-use machine::inside::commit;
-use machine::inside::jobs;
-use machine::inside::transaction;
+use machine::inside::calls::find;
+use machine::inside::commit::ahead_of;
+use machine::inside::commit::write_back;
 ghost use mathlib.Core.Path.{_≡_};
 ghost use mathlib.Core.Bool.{cond};
 ghost use Rattle.core.specs.declared.Answer.the-variants.{Ready, Refused};
 ghost use Rattle.machine.specs.Rule.{lent, setup as setupRule};
 ghost use Rattle.machine.specs.Inside.{Good};
 ghost use Rattle.machine.specs.Sound.{sound};
-ghost use Rattle.bench_calls.specs.Lists.{numberOf, door, inside, ready, run, doorRun, insideRun};
+ghost use Rattle.bench_calls.specs.Lists.{numberOf, askedOf, door, inside, ready, run, doorRun, insideRun};
 
 // The calls of a list, beside SAVE, which keeps the record, and RESTORE, which goes back to the one kept.
 const SAVE: u32 = 0;
@@ -111,43 +117,25 @@ fn door_step(
     tested(m)
 }
 
-// One call by its inside function; any other number changes nothing.
-fn inside_step(
-    m: Machine,
-    call: u32,
-    core: u32,
-    committed: &mut [u32],
-    pending: &mut [u32],
-) -> Outcome
-    requires { ⌜ Good (lent m (now committed) (now pending)) ⌝ }
-    ensures answer { λ r. ⌜ numberOf (r .answer) ≡ numberOf (inside (lent m (now (committed .entry)) (now (pending .entry))) call core .answer) ⌝ }
-    ensures world { λ r. ⌜ lent (r .machine) (now (committed .exit)) (now (pending .exit)) ≡ inside (lent m (now (committed .entry)) (now (pending .entry))) call core .world ⌝ }
-    ensures good { λ r. ⌜ Good (lent (r .machine) (now (committed .exit)) (now (pending .exit))) ⌝ }
+// What a number of a list asks for, beside SAVE and RESTORE: a call that concerns one core, a commit, or no call.
+enum Ask {
+    One(Act),
+    Commit,
+    Nothing,
+}
+
+fn asked(call: u32, core: u32) -> Ask
+    ensures { λ r. ⌜ r ≡ askedOf call core ⌝ }
 {
-    if call == RELEASE {
-        return jobs::release(m, core, 7, 100);
-    }
-    if call == BEGIN {
-        return transaction::begin(m, core);
-    }
-    if call == READ {
-        return access::read(m, core, core / 2 + 32, committed, pending);
-    }
-    if call == WRITE {
-        return access::write(m, core, core, 5, committed, pending);
-    }
-    if call == COMMIT {
-        return commit::commit(m, core, committed, pending);
-    }
-    if call == GIVE_UP {
-        return transaction::give_up(m, core);
-    }
-    if call == FINISH {
-        return jobs::finish(m, core);
-    }
-    Outcome {
-        answer: Answer::Ready,
-        machine: m,
+    match call {
+        RELEASE => Ask::One(Act::Release(7, 100)),
+        BEGIN => Ask::One(Act::Begin),
+        READ => Ask::One(Act::Read(core / 2 + 32)),
+        WRITE => Ask::One(Act::Write(core, 5)),
+        COMMIT => Ask::Commit,
+        GIVE_UP => Ask::One(Act::GiveUp),
+        FINISH => Ask::One(Act::Finish),
+        _ => Ask::Nothing,
     }
 }
 
@@ -187,7 +175,8 @@ pub extern "C" fn bench_calls_door(
     number_of(last)
 }
 
-// Runs the list through the inside functions on a good world; a number for the last answer.
+// Runs the list on a good world, each call in place: it takes its core out of the record, makes the call on it and puts it back. A
+// number for the last answer.
 fn inside_run(first: Machine, list: &[u32], committed: &mut [u32], pending: &mut [u32]) -> u32
     requires { ⌜ Good (lent first (now committed) (now pending)) ⌝ }
     ensures number { λ r. ⌜ r ≡ run inside (ready (lent first (now (committed .entry)) (now (pending .entry)))) (now (list .entry)) .last ⌝ }
@@ -207,16 +196,65 @@ fn inside_run(first: Machine, list: &[u32], committed: &mut [u32], pending: &mut
         } else if call == RESTORE {
             m = kept;
         } else {
-            let step = inside_step(m, call, core, committed, pending);
-            m = step.machine;
-            last = step.answer;
+            let ask = asked(call, core);
+            match ask {
+                Ask::One(a) => {
+                    let to = find(core, object_of(a), m.cores, m.objects);
+                    let c = to.core;
+                    let d = to.object;
+                    let at = c * m.objects as usize + d;
+                    let k = m.core[c];
+                    let seen = Seen {
+                        tickets: m.tickets,
+                        give_ups: m.give_ups,
+                        committed: committed[d],
+                        pending: pending[at],
+                        version: m.versions[d],
+                    };
+                    let done = act_on(to.refusal, a, k, seen);
+                    let after = done.core;
+                    m.core[c] = after;
+                    m.tickets = done.tickets;
+                    m.give_ups = done.give_ups;
+                    pending[at] = done.pending;
+                    last = done.answer;
+                }
+                Ask::Commit => {
+                    let to = find(core, 0, m.cores, m.objects);
+                    let c = to.core;
+                    let k = m.core[c];
+                    let done = settle(to.refusal, k, ahead_of(m, k));
+                    let after = done.core;
+                    m.core[c] = after;
+                    m.commits = m.commits + done.commits;
+                    write_back(
+                        done.writes,
+                        c * m.objects as usize,
+                        committed,
+                        pending,
+                        &mut m.versions,
+                    );
+                    let mut e: usize = 0;
+                    while e < 16 {
+                        let other = m.core[e];
+                        if is_struck(done.writes, other) {
+                            m.core[e] = abort(other);
+                        }
+                        e += 1;
+                    }
+                    last = done.answer;
+                }
+                Ask::Nothing => {
+                    last = Answer::Ready;
+                }
+            }
         }
     }
     number_of(last)
 }
 
-// Runs the list through the inside functions on a new machine of that many cores and cards; a number for the last answer. If setup is
-// refused, nothing is run.
+// Runs the list in place on a new machine of that many cores and cards; a number for the last answer. If setup is refused, nothing is
+// run.
 #[no_mangle]
 pub extern "C" fn bench_calls_inside(
     cores: u32,

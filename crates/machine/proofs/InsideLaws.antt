@@ -9,9 +9,9 @@ use Rattle.machine.specs.declared.Outcome.{Outcome}
 use Rattle.core.specs.declared.Answer.the-variants.{Ready, Waits}
 use Rattle.machine.specs.Answers.{named}
 use Rattle.machine.specs.Inside.{Fine, Good}
-use Rattle.machine.specs.Rule.{World, Result, lent, left, setup, release, begin, read, write, commit, giveUp, finish, contender}
+use Rattle.machine.specs.Rule.{World, Result, lent, left, setup, commit, contender}
 use Rattle.machine.proofs.Case.{case-of}
-use Rattle.machine.proofs.Binds.{release-follows, begin-follows, read-follows, write-follows, commit-follows, give-up-follows, finish-follows}
+use Rattle.machine.proofs.Binds.{commit-follows}
 use Rattle.machine.proofs.Sound.Keeps.{keeps-good, setup-good}
 
 -- what the inside functions that are lent the tables ask
@@ -26,26 +26,8 @@ setup-left cores objects cs ps r cs′ ps′ e ready =
     (setup-good cores objects cs ps (sym (ap (λ (x : Result). x .answer) e) ∙ ready))
 
 module _ (m : Machine) (cs ps : List ℕ) (g : Good (lent m cs ps)) (r : Outcome) where
-  pub release-left : (c number deadline : ℕ) → r ≡ release m c number deadline → Good (lent (r .machine) cs ps)
-  release-left c number deadline e = keeps-good (case-of (release-follows m cs ps r c number deadline e)) g
-
-  pub begin-left : (c : ℕ) → r ≡ begin m c → Good (lent (r .machine) cs ps)
-  begin-left c e = keeps-good (case-of (begin-follows m cs ps r c e)) g
-
-  pub give-up-left : (c : ℕ) → r ≡ giveUp m c → Good (lent (r .machine) cs ps)
-  give-up-left c e = keeps-good (case-of (give-up-follows m cs ps r c e)) g
-
-  pub finish-left : (c : ℕ) → r ≡ finish m c → Good (lent (r .machine) cs ps)
-  finish-left c e = keeps-good (case-of (finish-follows m cs ps r c e)) g
-
   -- a call that is lent the tables leaves them as cs′ and ps′
   module _ (cs′ ps′ : List ℕ) where
-    pub read-left : (c d : ℕ) → left r cs′ ps′ ≡ read (lent m cs ps) c d → Good (lent (r .machine) cs′ ps′)
-    read-left c d e = keeps-good (case-of (read-follows m cs ps r cs′ ps′ c d e)) g
-
-    pub write-left : (c d v : ℕ) → left r cs′ ps′ ≡ write (lent m cs ps) c d v → Good (lent (r .machine) cs′ ps′)
-    write-left c d v e = keeps-good (case-of (write-follows m cs ps r cs′ ps′ c d v e)) g
-
     pub commit-left : (c : ℕ) → left r cs′ ps′ ≡ commit (named (r .answer)) (lent m cs ps) c
         → ((e : ℕ) → r .answer ≡ Waits e → contender m c e ≡ true) → Good (lent (r .machine) cs′ ps′)
     commit-left c e waits = keeps-good (case-of (commit-follows m cs ps r cs′ ps′ c e waits)) g
