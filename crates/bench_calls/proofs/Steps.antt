@@ -1,10 +1,10 @@
 -- One call of a list, by the promise of the function that makes it. Assumes nothing.
 use mathlib.Core.Path.{_≡_, refl, sym, ap, subst, _∙_}
 use mathlib.Core.Bool.{Bool, true, false, cond}
-use mathlib.Core.List.{List, _++_}
-use Prim.Native.Nat.{ℕ, zero, suc, _+_, _/_, _≤_, _<_}
+use mathlib.Core.List.{List}
+use Prim.Native.Nat.{ℕ, zero, suc, _+_, _/_}
 use lib.Dec.{eqb}
-use lib.ListN.{length, set, take, drop}
+use lib.ListN.{set}
 use borrow.Author.Tests.{ne-eqb}
 use Rattle.machine.specs.Record.{coreAt}
 use Rattle.machine.specs.Rule.{World, Result, lent, left, rule, Release, Begin, Read, Write, Commit, GiveUp, Finish, setup, release, begin, read, write, commit, giveUp, finish, commitRefusal, unlessLent, told, waiting, through, blocked, changed, moved}
@@ -14,11 +14,8 @@ use Rattle.machine.specs.declared.Machine.{Machine}
 use Rattle.machine.specs.declared.Outcome.{Outcome}
 use Rattle.core.specs.declared.Answer.the-variants.{Ready, Refused}
 use Rattle.machine.specs.OneCore.{callOf, strikes, settled}
-use Rattle.machine.proofs.CoreLists.{strikes-next, strikes-hit, strikes-missed, strikes-done}
-use Rattle.core.specs.Life.{isStruck, aborted}
 use Rattle.core.specs.declared.calls.Settled.{Settled}
 use Rattle.core.specs.declared.calls.Act.the-variants as Act
-use Rattle.core.specs.declared.Core.{Core}
 use Rattle.core.specs.declared.calls.Act.{Act}
 use Rattle.bench_calls.specs.declared.Ask.{Ask}
 use Rattle.bench_calls.specs.declared.Ask.the-variants as Ask
@@ -176,47 +173,6 @@ module _ (other : Result) (m : Machine) (cs ps : List ℕ) (call c : ℕ) (r : O
   nothing-asked is p = by-asked Ask.Nothing is (by-result other r cs′ ps′ p)
 
 -- ---- a commit in place
-
--- the record with these cores
-abbrev withCores : Machine → List Core → Machine
-withCores m cores =
-    record { cores = m .cores; objects = m .objects; tickets = m .tickets; commits = m .commits; «give_ups» = m .«give_ups»; core = cores; versions = m .versions }
-
--- the loop that strikes the cores stands at core e: those before it are struck, the others are as they were, and so is the rest of the
--- record
-pub record Striking (ws : ℕ) (m₀ m : Machine) (e : ℕ) : Type 0 where
-  pub rest : m ≡ withCores m₀ (m .core)
-  pub long : length (m .core) ≡ length (m₀ .core)
-  pub struck : m .core ≡ take e (strikes ws (m₀ .core)) ++ drop e (m₀ .core)
-
-module _ (ws : ℕ) (m₀ m : Machine) (e : ℕ) (at : Striking ws m₀ m e) where
-  module _ (l : e < length (m₀ .core)) where
-    -- the core whose turn it is is as it was
-    pub striking-next : coreAt m e ≡ coreAt m₀ e
-    striking-next = strikes-next ws (m₀ .core) e (m .core) (at .long, at .struck) l
-
-    pub striking-hit : (k : Core) (n : Machine) → isStruck ws (coreAt m e) ≡ true → k ≡ aborted (coreAt m e) → n ≡ withCores m (set (m .core) e k)
-        → Striking ws m₀ n (e + 1)
-    striking-hit k n h is p =
-        let put = ap (λ (x : Machine). x .core) p ∙ ap (set (m .core) e) is in
-        let there = strikes-hit ws (m₀ .core) e (m .core) (at .long, at .struck) l (n .core) h put in
-        record {
-          rest = p ∙ ap (λ (x : Machine). withCores x (set (m .core) e k)) (at .rest) ∙ ap (λ (x : Machine). withCores m₀ (x .core)) (sym p);
-          long = there .0;
-          struck = there .1;
-        }
-
-    pub striking-missed : (n : Machine) → isStruck ws (coreAt m e) ≡ false → n ≡ m → Striking ws m₀ n (e + 1)
-    striking-missed n h p =
-        let there = strikes-missed ws (m₀ .core) e (m .core) (at .long, at .struck) l (n .core) h (ap (λ (x : Machine). x .core) p) in
-        record {
-          rest = p ∙ at .rest ∙ ap (λ (x : Machine). withCores m₀ (x .core)) (sym p);
-          long = there .0;
-          struck = there .1;
-        }
-
-  pub striking-done : length (m₀ .core) ≤ e → m ≡ withCores m₀ (strikes ws (m₀ .core))
-  striking-done h = at .rest ∙ ap (withCores m₀) (strikes-done ws (m₀ .core) e (m .core) (at .long, at .struck) h)
 
 -- what the commit left on its core put back, its write set carried out, and the cores struck
 pub carried-out : (w : World) (c : ℕ) (r : Settled) (cs versions : List ℕ) (m : Machine)

@@ -9,6 +9,7 @@ pub mod Typed
 pub mod Front
 mod SetLoop
 pub mod CommitLaws
+pub mod StrikeLoop
 mod SoundLaws
 pub mod Refusals
 mod Told

@@ -1,10 +1,9 @@
 -- A call that the loop makes in place: what the code found, saw and got, put back, is the rule's. Assumes nothing.
 use mathlib.Core.Path.{_≡_, refl, sym, ap, ap₂, subst, _∙_}
-use mathlib.Core.Bool.{Bool, true, false, cond}
+use mathlib.Core.Bool.{Bool, true, false}
 use mathlib.Core.List.{List, _++_}
-use Prim.Native.Nat.{ℕ, _+_, _*_, _≤_, _<_}
+use Prim.Native.Nat.{ℕ, _+_, _*_, _<_}
 use native.Mathlib.Omega.{arith}
-use lib.Dec.{eqb}
 use lib.ListN.{length, getD, set, take, drop, length-set, take-append-drop, List·getD-append}
 use lib.Seq.{set-append-left}
 use Rattle.core.specs.declared.Core.{Core}
@@ -13,22 +12,18 @@ use Rattle.core.specs.declared.calls.Act.{Act}
 use Rattle.core.specs.declared.calls.Seen.{Seen}
 use Rattle.core.specs.declared.calls.Acted.{Acted}
 use Rattle.core.specs.declared.calls.Settled.{Settled}
-use Rattle.core.specs.Parts.{noCore}
-use Rattle.core.specs.Life.{isStruck, aborted}
 use Rattle.core.specs.Calls.{objectOf, actOn, commitOn}
 use Rattle.machine.specs.declared.Machine.{Machine}
 use Rattle.machine.specs.declared.Outcome.{Outcome}
 use Rattle.machine.specs.declared.inside.calls.Found.{Found}
 use Rattle.machine.specs.Record.{coreAt}
 use Rattle.machine.specs.Rule as Rule
-use Rattle.machine.specs.Rule.{Result, changed}
+use Rattle.machine.specs.Rule.{changed}
 use Rattle.machine.specs.Inside.{Good}
-use Rattle.machine.specs.OneCore.{callOf, found, given, firstHolding, strikes, settled}
+use Rattle.machine.specs.OneCore.{callOf, found, firstHolding, strikes}
 use Rattle.machine.proofs.Binds.{act-follows, commit-follows}
 use Rattle.machine.proofs.CoreCalls.{by-core-at, to-object, to-slot}
 use Rattle.machine.proofs.CommitLaws.{by-commit-at}
-use Rattle.machine.proofs.CoreLists.{strikes-next, strikes-hit, strikes-missed}
-use Rattle.machine.proofs.Front.{Stands}
 use Rattle.machine.proofs.InsideLaws.{fine}
 use Rattle.script.specs.declared.Call.{Call}
 use Rattle.script.specs.declared.Call.the-variants as Call
@@ -160,69 +155,3 @@ module _ (m : Machine) (cs ps : List ℕ) (g : Good (held m cs ps)) (cl : length
 -- what the code has in two places is an outcome
 pub outcome-same : {m m′ : Machine} {a a′ : Answer} → m ≡ m′ → a ≡ a′ → _≡_ {A = Outcome} (record { machine = m; answer = a }) (record { machine = m′; answer = a′ })
 outcome-same p q = ap₂ (λ (m : Machine) (a : Answer). record { machine = m; answer = a }) p q
-
--- ---- the loop that strikes, one core after another
-
--- the record with other cores
-abbrev pub withCores : Machine → List Core → Machine
-withCores m cores =
-    record {
-      cores = m .cores;
-      objects = m .objects;
-      tickets = m .tickets;
-      commits = m .commits;
-      «give_ups» = m .«give_ups»;
-      core = cores;
-      versions = m .versions;
-    }
-
--- where the loop stands before the turn of core e: of the record m₀ only the cores before e have changed
-pub record Striking (ws : ℕ) (m₀ : Machine) (reach : ℕ) (m : Machine) (e : ℕ) : Type 0 where
-  pub long : length (m₀ .core) ≡ 16
-  pub few : reach ≤ 16
-  pub strikable : (i : ℕ) → i < 16 → getD (m₀ .core) i noCore .aborts < 255
-  pub stands : Stands e (strikes ws (m₀ .core)) (m₀ .core) (m .core)
-  pub same : m ≡ withCores m₀ (m .core)
-
--- the loop goes as far as there are cores
-pub reached : (n ws : ℕ) → n ≡ cond (eqb ws 0) 0 16 → n ≤ 16
-reached n ws e = subst (λ (x : ℕ). x ≤ 16) (sym e) (go (eqb ws 0))
-  where
-    go : (b : Bool) → cond b 0 16 ≤ 16
-    go true = omega arith
-    go false = omega arith
-
-module _ {ws : ℕ} {m₀ : Machine} {reach : ℕ} {m : Machine} {e : ℕ} (s : Striking ws m₀ reach m e) (l : e < reach) where
-  pub striking-place : e < 16
-  striking-place = omega (arith, s .few)
-
-  within : e < length (m₀ .core)
-  within = omega (arith, s .few, s .long)
-
-  -- the core whose turn it is has few setbacks
-  pub striking-able : getD (m .core) e noCore .aborts < 255
-  striking-able =
-      omega (arith, ap (λ (k : Core). k .aborts) (strikes-next ws (m₀ .core) e (m .core) (s .stands) within), s .strikable e striking-place)
-
-  moved-on : (next : Machine) → next ≡ withCores m (next .core) → Stands (e + 1) (strikes ws (m₀ .core)) (m₀ .core) (next .core)
-      → Striking ws m₀ reach next (e + 1)
-  moved-on next is there =
-      record {
-        long = s .long;
-        few = s .few;
-        strikable = s .strikable;
-        stands = there;
-        same = is ∙ ap (λ (x : Machine). withCores x (next .core)) (s .same);
-      }
-
-  -- it is struck, or it stays
-  pub striking-hit : (next : Machine) → isStruck ws (getD (m .core) e noCore) ≡ true
-      → next ≡ withCores m (set (m .core) e (aborted (getD (m .core) e noCore))) → Striking ws m₀ reach next (e + 1)
-  striking-hit next hit is =
-      moved-on next (is ∙ ap (withCores m) (sym (ap (λ (x : Machine). x .core) is)))
-      (strikes-hit ws (m₀ .core) e (m .core) (s .stands) within (next .core) hit (ap (λ (x : Machine). x .core) is))
-
-  pub striking-missed : (next : Machine) → isStruck ws (getD (m .core) e noCore) ≡ false → next ≡ m → Striking ws m₀ reach next (e + 1)
-  striking-missed next missed is =
-      moved-on next (is ∙ ap (withCores m) (sym (ap (λ (x : Machine). x .core) is)))
-      (strikes-missed ws (m₀ .core) e (m .core) (s .stands) within (next .core) missed (ap (λ (x : Machine). x .core) is))

@@ -17,15 +17,16 @@ use Rattle.machine.specs.OneCore.{given, handed}
 use Rattle.machine.proofs.InsideLaws.{fine, commit-left}
 use Rattle.machine.proofs.CoreCalls.{by-core-at, to-core, to-object, core-there, object-there, to-slot, few-words, to-fits}
 use Rattle.machine.proofs.CommitLaws.{Ready, ready, row-within, by-commit-at}
+use Rattle.machine.proofs.StrikeLoop.{withCores, Striking, striking-able, striking-hit, striking-missed, striking-done}
 use Rattle.bench_calls.specs.Lists.{inside, State, run}
 use Rattle.bench_calls.proofs.Kept.{same-lengths, one-good}
 use Rattle.bench_calls.proofs.Runs.{state, saves, restores, calls, list-ends}
-use Rattle.bench_calls.proofs.Steps.{one-done, commit-asked, nothing-asked, Striking, striking-next, striking-hit, striking-missed, striking-done, carried-out}
+use Rattle.bench_calls.proofs.Steps.{one-done, commit-asked, nothing-asked, carried-out}
 use Rattle.bench_calls.proofs.inside_run.Statement.{statement}
 use Rattle.bench_calls.proofs.inside_run.Tie as tie
 
 abbrev Inv-loop2 : tie.InvT-loop2
-Inv-loop2 list committed pending m₀ kept i call core c done e₀ m e = (e ≤ 16) × Striking (done .writes) m₀ m e
+Inv-loop2 list committed pending m₀ kept i call core c done e₀ m e = (e ≤ 16) × Striking (done .writes) m₀ 16 m e
 
 abbrev μ-loop2 : tie.MeasureT-loop2
 μ-loop2 list committed pending m₀ kept i call core c done e₀ m e = 16 - e
@@ -279,7 +280,9 @@ write-back-requires c κs =
     )
 
 loop2-holds : tie.Need-loop2-holds Inv-loop2 μ-loop2 Inv-loop μ-loop
-loop2-holds c = (omega arith, record { rest = refl; long = refl; struck = refl })
+loop2-holds c =
+    let done = c .before .before .before .before .before .before .before .before in
+    (omega arith, record { long = sixteen done; few = omega arith; strikable = able done .strikable; stands = (refl, refl); same = refl })
 
 mul-other : tie.Need-mul-other Inv-loop2 μ-loop2 Inv-loop μ-loop
 mul-other c = search needs
@@ -291,11 +294,7 @@ is-struck-requires : tie.Need-is-struck-requires Inv-loop2 μ-loop2 Inv-loop μ-
 is-struck-requires c κs = search needs
 
 abort-requires : tie.Need-abort-requires Inv-loop2 μ-loop2 Inv-loop μ-loop
-abort-requires c κs =
-    let at = c .before .before .before .before in
-    let test = c .before .before .before .loop2-test .taken in
-    let here = striking-next _ _ _ _ (at .loop2 .inv .1) (omega (arith, sixteen (done-of at), test)) in
-    omega (arith, ap (λ (k : Core). k .aborts) here, able (done-of at) .strikable (at .loop2 .e) (omega (arith, test)))
+abort-requires c κs = striking-able (c .before .before .before .before .loop2 .inv .1) (c .before .before .before .loop2-test .taken)
 
 mul-t79 : tie.Need-mul-t79 Inv-loop2 μ-loop2 Inv-loop μ-loop
 mul-t79 c = search needs
@@ -311,13 +310,13 @@ loop2-less c = search needs
 
 loop2-again : tie.Need-loop2-again Inv-loop2 μ-loop2 Inv-loop μ-loop
 loop2-again c =
-    let at = c .before .before .before .before in
+    let at = c .before .before .before .before .loop2 in
     let test = c .before .before .before .loop2-test .taken in
     let hit = c .before .is-struck .ensures in (
       omega (arith, test),
       ⊎-elim
-          (λ w. striking-hit _ _ _ _ (at .loop2 .inv .1) (omega (arith, sixteen (done-of at), test)) _ _ (sym hit ∙ w .0 .taken) (w .1 .ensures) (w .2))
-          (λ w. striking-missed _ _ _ _ (at .loop2 .inv .1) (omega (arith, sixteen (done-of at), test)) _ (sym hit ∙ w .0 .left) (w .1)) (c .if3 .came),
+          (λ w. striking-hit (at .inv .1) test _ (sym hit ∙ w .0 .taken) (w .2 ∙ ap (λ (k : Core). withCores (at .m) (set (at .m .core) (at .e) k)) (w .1 .ensures)))
+          (λ w. striking-missed (at .inv .1) test _ (sym hit ∙ w .0 .left) (w .1)) (c .if3 .came),
     )
 
 loop-less-4 : tie.Need-loop-less-4 Inv-loop2 μ-loop2 Inv-loop μ-loop
@@ -334,7 +333,7 @@ loop-again-4 c =
     let test = asks .before .before .before .before .before .loop-test .taken in
     let w = lent (at .m) (at .committed) (at .pending) in
     let by = by-commit-at w (fine (at .inv .3)) (at .inv .3 .formed .core-long) _ (to .find2 .result) _ (done .settle .result) (to .find2 .ensures) (done .before .ahead-of .ensures) (done .settle .ensures) in
-    let all = striking-done _ _ _ _ (last .loop2 .inv .1) (omega (arith, sixteen done, c .loop2-test .left)) in
+    let all = striking-done (last .loop2 .inv .1) (omega (arith, c .loop2-test .left)) in
     let same = carried-out w (to .find2 .result .core) (done .settle .result) _ _ _ (moved .ensures .0) (moved .ensures .1) all ∙ by .0 in
     let r : Outcome = record { answer = done .settle .result .answer; machine = last .loop2 .m } in
     let long = moved .kept .1 .1 .0 in (

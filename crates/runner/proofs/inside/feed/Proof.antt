@@ -2,12 +2,11 @@
 -- stands, that of the loop that strikes is `Striking`. Assumes nothing.
 use mathlib.Core.Path.{_≡_, refl, sym, ap, subst, _∙_}
 use mathlib.Core.Logic.{⊎-elim}
-use mathlib.Core.Bool.{true}
 use mathlib.Core.List.{List, _++_}
 use Prim.Native.Nat.{ℕ, _+_, _*_, _-_, _≤_, _<_}
 use native.Mathlib.Omega.{arith}
 use lib.ListN as Nat
-use lib.ListN.{drop, length-set, take-append-drop}
+use lib.ListN.{drop, length-set}
 use lib.Seq.{length-take-le}
 use borrow.Author.Needs.{needs}
 use Rattle.core.specs.declared.Core.{Core}
@@ -16,24 +15,23 @@ use Rattle.machine.specs.Record.{coreAt}
 use Rattle.machine.specs.Inside.{Good}
 use Rattle.machine.specs.OneCore.{callOf, firstFrom}
 use Rattle.machine.specs.declared.Machine.{Machine}
-use Rattle.machine.specs.declared.Outcome.{Outcome}
 use Rattle.machine.specs.Rule as Rule
 use Rattle.machine.proofs.Sound.Keeps.{whole}
 use Rattle.machine.proofs.CoreCalls.{to-core, core-there, object-there, to-slot, to-fits}
 use Rattle.machine.proofs.CoreLists.{holding-here, holding-later, strikes-reached}
+use Rattle.machine.proofs.StrikeLoop.{withCores, Striking, reached, striking-place, striking-able, striking-hit, striking-missed}
 use Rattle.machine.proofs.CommitLaws.{lacked-holding, Ready, ready, row-within}
-use Rattle.script.specs.declared.Call.{Call}
 use Rattle.runner.specs.declared.Reading.{Reading}
 use Rattle.runner.specs.declared.lines.Ended.{Ended}
 use Rattle.runner.specs.declared.lines.Ended.the-variants.{Calls}
 use Rattle.runner.specs.Kept.{held}
-use Rattle.runner.specs.Ends.{onMachine, count}
+use Rattle.runner.specs.Ends.{count}
 use Rattle.runner.specs.Asks.{requestOf}
-use Rattle.runner.specs.Listing.{called, request}
+use Rattle.runner.specs.Listing.{called}
 use Rattle.runner.proofs.Acts.{Done, done-same}
 use Rattle.runner.proofs.Sizes.{own-words, committed-room, pending-room, good-for-call}
 use Rattle.runner.proofs.ByCall.{setup-done}
-use Rattle.runner.proofs.InPlace.{asks-machine, one-done, commit-done, outcome-same, withCores, Striking, reached, striking-place, striking-able, striking-hit, striking-missed}
+use Rattle.runner.proofs.InPlace.{asks-machine, one-done, commit-done, outcome-same}
 use Rattle.runner.proofs.Written.{written}
 use Rattle.runner.proofs.Stepping.{reading}
 use Rattle.runner.proofs.Feeding.{Feeding, Left, feeding-starts, feeding-skips, feeding-loses, feeding-keeps, line-lists, line-calls, call-output, feeding-same, part-room, room-left, feeding-done, feeding-kept}
