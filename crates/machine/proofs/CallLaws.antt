@@ -1,7 +1,7 @@
 -- The conditions of refusals, and a call that is lent the tables: refused where a condition holds, accepted where none does.
 -- Assumes nothing.
 use mathlib.Core.Path.{_≡_, sym, ap, ap₂}
-use mathlib.Core.Bool.{Bool, true, false, not, _&&_}
+use mathlib.Core.Bool.{true, false, not, _&&_}
 use Prim.Native.Nat.{ℕ, suc, _≤_, _<_}
 use borrow.Author.Tests.{lt-ltb, le-ltb, eq-eqb}
 use Rattle.core.specs.declared.Answer.the-variants.{Refused}

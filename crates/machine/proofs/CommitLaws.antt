@@ -8,7 +8,7 @@ use native.Mathlib.Omega.{arith}
 use lib.Dec.{ltb}
 use lib.ListN.{length, getD, set, drop}
 use lib.Seq.{set-getD}
-use borrow.Author.Tests.{ltb-true, ltb-false, eq-eqb, ne-eqb}
+use borrow.Author.Tests.{ltb-true, ltb-false, eq-eqb}
 use Rattle.objset.specs.Objset.{has, some}
 use Rattle.objset.proofs.Digits.{has-zero}
 use Rattle.objset.proofs.Laws.{one-some}
@@ -27,7 +27,7 @@ use Rattle.machine.specs.Sound.{sound}
 use Rattle.machine.specs.Answers.{kind, named}
 use Rattle.machine.specs.Inside.{Fine}
 use Rattle.machine.specs.Rule.{World, Result, withMachine, unlessLent, wrongTables, told, contender, blocked, changed, moved, through, waiting, commitRefusal, commit}
-use Rattle.machine.specs.OneCore.{found, firstFrom, firstHolding, strikes, settled}
+use Rattle.machine.specs.OneCore.{found, firstFrom, firstHolding, settled}
 use Rattle.machine.proofs.Entries.{put-each, changed-at, changed-long}
 use Rattle.machine.proofs.Facts.{stands, core-place, one-open}
 use Rattle.machine.proofs.CallLaws.{is-sound, a-core, no-core, refused-lent, accepted-lent}

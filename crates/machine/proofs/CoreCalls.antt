@@ -6,12 +6,12 @@ use Prim.Native.Nat.{ℕ, zero, suc, _+_, _*_, _≤_, _<_}
 use native.Mathlib.Nat.{mul-le-mul}
 use native.Mathlib.Omega.{arith}
 use lib.Dec.{ltb}
-use lib.ListN.{getD, set, length, replicate}
+use lib.ListN.{getD, set}
 use lib.Seq.{set-getD}
-use borrow.Author.Tests.{ltb-true, ltb-false, lt-ltb, le-ltb}
+use borrow.Author.Tests.{ltb-true, ltb-false}
 use Rattle.core.specs.declared.Core.{Core}
 use Rattle.core.specs.declared.Answer.{Answer}
-use Rattle.core.specs.declared.Answer.the-variants.{Waits, Refused}
+use Rattle.core.specs.declared.Answer.the-variants.{Refused}
 use Rattle.core.specs.declared.calls.Act.{Act}
 use Rattle.core.specs.declared.calls.Act.the-variants as Act
 use Rattle.core.specs.declared.calls.Seen.{Seen}
@@ -22,11 +22,11 @@ use Rattle.core.proofs.CallLaws.{skips, hits}
 use Rattle.machine.specs.declared.Machine.{Machine}
 use Rattle.machine.specs.declared.Outcome.{Outcome}
 use Rattle.machine.specs.declared.inside.calls.Found.{Found}
-use Rattle.machine.specs.Record.{coreAt, putCore}
+use Rattle.machine.specs.Record.{coreAt}
 use Rattle.machine.specs.Sound.{sound}
 use Rattle.machine.specs.Inside.{Fine}
 use Rattle.machine.specs.Refusals.{refusals, at}
-use Rattle.machine.specs.Rule.{World, Result, lent, withMachine, unless, unlessLent, unlent, wrongTables, noSuchCore, noSuchObject, released, release, begun, begin, told, valued, valueRead, read, written, write, slot, accessRefusal, ended, giveUp, finished, finish, rule, Call, coreOf, Release, Begin, Read, Write, GiveUp, Finish}
+use Rattle.machine.specs.Rule.{World, Result, lent, unless, unlessLent, unlent, released, release, begun, begin, told, valued, valueRead, read, written, write, slot, accessRefusal, ended, giveUp, finished, finish, rule, Call, coreOf, Release, Begin, Read, Write, GiveUp, Finish}
 use Rattle.machine.specs.OneCore.{callOf, found, seen, given}
 use Rattle.machine.proofs.Facts.{stands, core-place, object-place, few-jobs, one-open}
 use Rattle.machine.proofs.Run.Places.{slot-inside}

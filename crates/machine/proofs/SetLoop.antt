@@ -1,5 +1,5 @@
 -- A loop over the objects of a set: before the turn of object d, the number that is left holds the objects from d on. Assumes nothing.
-use mathlib.Core.Path.{_≡_, refl, sym, ap, subst, _∙_}
+use mathlib.Core.Path.{_≡_, refl, ap, subst, _∙_}
 use mathlib.Core.Bool.{Bool, true, false}
 use Prim.Native.Nat.{ℕ, suc, _+_, _*_, _-_, _^_, _≤_, _<_, _/_, _%_}
 use native.Mathlib.Nat.{pow-suc, div-one}

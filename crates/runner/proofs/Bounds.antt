@@ -16,7 +16,7 @@ use Rattle.script.specs.declared.Names.{Names}
 use Rattle.script.specs.declared.Names.the-variants as Names
 use Rattle.script.specs.Pieces.{lines}
 use Rattle.script.specs.Line.{names, spells}
-use Rattle.listing.specs.Text.{line, said, word, value}
+use Rattle.listing.specs.Text.{line, said}
 use Rattle.listing.proofs.Laws.{word-short, value-short}
 use Rattle.runner.specs.Listing.{nothing, answered, mostLines, listed, named, body, listing}
 

@@ -1,6 +1,5 @@
 -- `core::calls::begin` meets its contract. Assumes nothing.
-use mathlib.Core.Path.{_≡_, refl, sym, ap, _∙_}
-use native.Mathlib.Omega.{arith}
+use mathlib.Core.Path.{_∙_}
 use borrow.Author.Tests.{le-leb, lt-leb, eq-eqb, ne-eqb}
 use Rattle.core.specs.Calls.{beginOn}
 use Rattle.core.proofs.CallLaws.{skips, hits, none-holds, refused, accepted}

@@ -1,5 +1,5 @@
 -- `core::calls::give_up` meets its contract. Assumes nothing.
-use mathlib.Core.Path.{_≡_, refl, sym, ap, _∙_}
+use mathlib.Core.Path.{refl, _∙_}
 use native.Mathlib.Omega.{arith}
 use Rattle.core.specs.Calls.{giveUpOn}
 use Rattle.core.proofs.TestLaws.{holds}

@@ -1,6 +1,5 @@
 -- `core::calls::write` meets its contract. Assumes nothing.
-use mathlib.Core.Path.{_≡_, refl, sym, ap, _∙_}
-use native.Mathlib.Omega.{arith}
+use mathlib.Core.Path.{_∙_}
 use Rattle.core.specs.Calls.{writeOn}
 use Rattle.core.proofs.CallLaws.{skips, hits, none-holds, refused, accepted}
 use borrow.Author.Needs.{needs}

@@ -1,10 +1,9 @@
 -- `machine::inside::calls::access` meets its contract. Assumes nothing.
-use mathlib.Core.Path.{_≡_, refl, sym, ap, _∙_}
+use mathlib.Core.Path.{refl}
 use Prim.Native.Nat.{_+_, _*_, _≤_, _<_}
 use native.Mathlib.Omega.{arith}
 use lib.ListN.{length}
-use Rattle.machine.specs.Rule.{lent}
-use Rattle.machine.proofs.CoreCalls.{by-core-at, to-core, to-object, core-there, object-there, to-slot, few-words, to-fits}
+use Rattle.machine.proofs.CoreCalls.{by-core-at, to-object, core-there, object-there, to-slot, few-words, to-fits}
 use borrow.Author.Needs.{needs}
 use Rattle.machine.proofs.inside.calls.access.Statement.{statement}
 use Rattle.machine.proofs.inside.calls.access.Tie as tie

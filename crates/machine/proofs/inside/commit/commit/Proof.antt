@@ -1,8 +1,7 @@
 -- `machine::inside::commit::commit` meets its contract. Assumes nothing.
-use mathlib.Core.Path.{_≡_, refl, sym, ap, subst, _∙_}
+use mathlib.Core.Path.{sym, subst}
 use Prim.Native.Nat.{_<_}
 use native.Mathlib.Omega.{arith}
-use lib.ListN.{length}
 use Rattle.core.specs.declared.calls.Settled.{Settled}
 use Rattle.machine.proofs.Typed.{machine-formed}
 use Rattle.machine.proofs.CoreCalls.{to-core, core-there, few-words}
