@@ -1,0 +1,109 @@
+#!/usr/bin/env bash
+# Machines that are wrong in crates/core, definition, code and proofs alike, and in machine's rule where it says the same: core is proved,
+# and the claims about whole runs must refuse machine over it. tests/knots/*.edit are must-fail edits with paths that start at crates/;
+# '# claims: NAME NAME ..' names files of crates/machine/proofs, and each must be refused by itself, at a fact: not because something
+# beneath it is, nor at a name that it lacks. Two at a time. Ends in 'N passed, M failed'.
+# Usage: tests/knots.sh [LABEL ..]; KEEP=DIR keeps the logs there
+set -u
+cd "$(dirname "$0")/.." || exit 1
+work=$(mktemp -d)
+trap 'rm -rf "$work"' EXIT
+
+# what each try starts from: the three crates, and objset proved
+mkdir -p "$work/base/crates"
+cp -r crates/objset crates/core crates/machine "$work/base/crates"
+rm -rf "$work"/base/crates/*/must-fail "$work"/base/crates/*/guards
+printf 'objset:\ncore: objset\nmachine: objset core\n' >"$work/base/crates.txt"
+for part in rlib stamp log; do
+  mkdir -p "$work/base/target/$part"
+  if [ -d "target/$part" ]; then find "target/$part" -maxdepth 1 -name 'objset*' -exec cp -r {} "$work/base/target/$part" \; ; fi
+done
+if ! (cd "$work/base" && rt check objset) >"$work/base.log" 2>&1; then
+  cat "$work/base.log"
+  echo "0 passed, 1 failed"
+  exit 1
+fi
+
+# apply EDIT DIR: makes the edit's replacements under DIR/crates; says what is wrong with it, if anything is
+apply() {
+  local line file='' old='' new pairs=0
+  while IFS= read -r line || [ -n "$line" ]; do
+    case $line in
+    'file: '*) file=${line#file: } ;;
+    'old: '*) old=${line#old: } ;;
+    'new:'*)
+      new=${line#new:}
+      new=${new# }
+      case $file in core/* | machine/*) ;; *) echo "'$file' is no file of core or machine"; return 1 ;; esac
+      case $file in *..*) echo "'$file' leads out of the crates"; return 1 ;; esac
+      [ -f "$2/crates/$file" ] || { echo "there is no file $file"; return 1; }
+      OLD=$old NEW=$new awk '
+        { text = text $0 "\n" }
+        END {
+          old = ENVIRON["OLD"]
+          at = old == "" ? 0 : index(text, old)
+          if (!at) exit 3
+          rest = substr(text, at + length(old))
+          if (index(rest, old)) exit 4
+          printf "%s%s%s", substr(text, 1, at - 1), ENVIRON["NEW"], rest
+        }' "$2/crates/$file" >"$2/edited" || { echo "an 'old:' text is not in $file, or more than once: $old"; return 1; }
+      mv "$2/edited" "$2/crates/$file"
+      old=''
+      pairs=$((pairs + 1))
+      ;;
+    esac
+  done <"$1"
+  [ "$pairs" -gt 0 ] || { echo "it changes nothing"; return 1; }
+}
+
+# try EDIT: says what is wrong, and nothing where the edit is refused as it must be
+try() {
+  local edit=$1 copy names name
+  copy=$work/$(basename "$edit" .edit)
+  cp -r "$work/base" "$copy"
+  names=$(sed -n 's/^# claims: //p' "$edit")
+  [ -n "$names" ] || { echo "it names no claims"; return; }
+  apply "$edit" "$copy" || return
+  (cd "$copy" && RT_CUT=0 RT_JOBS=1 rt check core) >"$copy/core.log" 2>&1 || { echo "core is refused"; grep -m 3 ': error' "$copy/core.log"; return; }
+  if (cd "$copy" && RT_CUT=0 RT_JOBS=1 rt check machine) >"$copy/machine.log" 2>&1; then echo "machine is still proved"; return; fi
+  grep -q '^logic=not-proved' "$copy/machine.log" || { echo "machine did not reach the prover"; head -n 5 "$copy/machine.log"; return; }
+  for name in $names; do
+    grep -F "/machine/proofs/$name.antt:" "$copy/machine.log" | grep ': error: ' |
+      grep -qvE ' was not admitted |not in scope|unknown name|no such name' || echo "machine/proofs/$name is not refused by itself"
+  done
+}
+
+passed=0
+failed=0
+# flush EDIT ..: waits for those that are being tried, and counts them
+flush() {
+  local edit label
+  wait
+  for edit in "$@"; do
+    label=$(basename "$edit" .edit)
+    if [ -f "$work/$label.out" ] && [ ! -s "$work/$label.out" ]; then
+      passed=$((passed + 1))
+      echo "$label: refused by the claims ($(grep -m 1 -o 'crates/machine/[^ ]*: error' "$work/$label/machine.log" | sed 's/: error$//'))"
+    else
+      failed=$((failed + 1))
+      echo "$label: FAILED"
+      cat "$work/$label.out"
+    fi
+    if [ -n "${KEEP:-}" ]; then cp "$work/$label/core.log" "$KEEP/$label.core.log" 2>/dev/null; cp "$work/$label/machine.log" "$KEEP/$label.machine.log" 2>/dev/null; fi
+  done
+}
+
+batch=()
+for edit in tests/knots/*.edit; do
+  [ -f "$edit" ] || continue
+  if [ $# -gt 0 ]; then case " $* " in *" $(basename "$edit" .edit) "*) ;; *) continue ;; esac; fi
+  try "$edit" >"$work/$(basename "$edit" .edit).out" 2>&1 &
+  batch+=("$edit")
+  if [ "${#batch[@]}" -eq 2 ]; then
+    flush "${batch[@]}"
+    batch=()
+  fi
+done
+[ "${#batch[@]}" -eq 0 ] || flush "${batch[@]}"
+echo "$passed passed, $failed failed"
+[ "$failed" -eq 0 ] && [ "$passed" -gt 0 ]
