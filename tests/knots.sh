@@ -69,7 +69,7 @@ try() {
   grep -q '^logic=not-proved' "$copy/machine.log" || { echo "machine did not reach the prover"; head -n 5 "$copy/machine.log"; return; }
   for name in $names; do
     grep -F "/machine/proofs/$name.antt:" "$copy/machine.log" | grep ': error: ' |
-      grep -qvE ' was not admitted |not in scope|unknown name|no such name' || echo "machine/proofs/$name is not refused by itself"
+      grep -qvE ' was not admitted | that can be named from here| is not in scope| has no field ' || echo "machine/proofs/$name is not refused by itself"
   done
 }
 
