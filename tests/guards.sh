@@ -22,9 +22,8 @@ if [ "$count" -eq 0 ]; then
   echo "0 passed, 1 failed"
   exit 1
 fi
-(cd "$copy" && rt must-fail "${names[@]}") >"$copy/log" 2>&1
-status=$?
-cat "$copy/log"
+(cd "$copy" && rt must-fail "${names[@]}") 2>&1 | tee "$copy/log"
+status=${PIPESTATUS[0]}
 passed=$(grep -cE '(^|[ :])must-fail [^ ]*: refused, as it must be' "$copy/log")
 failed=$((count - passed))
 # all were refused and yet rt failed: that is a failure too
