@@ -1,20 +1,32 @@
 #!/usr/bin/env bash
 # The longer list of edits that the prover must refuse: crates/NAME/guards/*.edit, tried as must-fail edits are, in a copy of the
-# repository. The gate tries crates/NAME/must-fail alone, since each edit rechecks its whole crate. Ends in 'N passed, M failed'.
+# repository. The gate tries crates/NAME/must-fail alone, since each edit rechecks its whole crate. Each of the files must be tried and
+# refused. Ends in 'N passed, M failed'.
 set -u
-cd "$(dirname "$0")/.."
+cd "$(dirname "$0")/.." || exit 1
 copy=$(mktemp -d)
 trap 'rm -rf "$copy"' EXIT
 cp -r crates crates.txt "$copy"
-names=""
+rm -rf "$copy"/crates/*/must-fail
+names=()
+count=0
 for guards in "$copy"/crates/*/guards; do
+  [ -d "$guards" ] || continue
   name=$(basename "$(dirname "$guards")")
-  rm -rf "$copy/crates/$name/must-fail"
   mv "$guards" "$copy/crates/$name/must-fail"
-  names="$names $name"
+  names+=("$name")
+  count=$((count + $(find "$copy/crates/$name/must-fail" -name '*.edit' | wc -l)))
 done
-(cd "$copy" && rt must-fail $names) | tee "$copy/log"
-passed=$(grep -c ': refused, as it must be' "$copy/log")
-failed=$(grep -cE ': (NOT REFUSED|BAD EDIT)' "$copy/log")
+if [ "$count" -eq 0 ]; then
+  echo "there is no guard"
+  echo "0 passed, 1 failed"
+  exit 1
+fi
+(cd "$copy" && rt must-fail "${names[@]}") 2>&1 | tee "$copy/log"
+status=${PIPESTATUS[0]}
+passed=$(grep -cE '(^|[ :])must-fail [^ ]*: refused, as it must be' "$copy/log")
+failed=$((count - passed))
+# all were refused and yet rt failed: that is a failure too
+if [ "$status" -ne 0 ] && [ "$failed" -eq 0 ]; then failed=1; fi
 echo "$passed passed, $failed failed"
-[ "$failed" -eq 0 ] && [ "$passed" -gt 0 ]
+[ "$status" -eq 0 ] && [ "$failed" -eq 0 ]

@@ -33,6 +33,7 @@ counted() {
 
 part "proofs, must-fail edits and programs (rt ci)" rt ci
 part "edits of several functions" tests/edits.sh
+part "edits across crates" tests/knots.sh
 part "layout (rt fmt --check)" counted rt fmt --check
 part "documents (docs/TRACE.md)" tests/trace.sh
 part "second implementation (reference/)" cargo test --quiet --release --offline --manifest-path reference/Cargo.toml
