@@ -3,7 +3,7 @@
 # and the claims about whole runs must refuse machine over it. tests/knots/*.edit are must-fail edits with paths that start at crates/;
 # '# claims: NAME NAME ..' names files of crates/machine/proofs, and each must be refused by itself, at a fact: not because something
 # beneath it is, nor at a name that it lacks. Two at a time. Ends in 'N passed, M failed'.
-# Usage: tests/knots.sh [LABEL ..]; KEEP=DIR keeps the logs there
+# Usage: tests/knots.sh [LABEL ..]; KEEP=DIR keeps the logs there; EDITS=DIR has other edits (make guards: tests/knots/guards)
 set -u
 cd "$(dirname "$0")/.." || exit 1
 work=$(mktemp -d)
@@ -99,7 +99,7 @@ flush() {
 
 batch=()
 tried=0
-for edit in tests/knots/*.edit; do
+for edit in "${EDITS:-tests/knots}"/*.edit; do
   [ -f "$edit" ] || continue
   if [ $# -gt 0 ]; then case " $* " in *" $(basename "$edit" .edit) "*) ;; *) continue ;; esac; fi
   try "$edit" >"$work/$(basename "$edit" .edit).out" 2>&1 &
