@@ -12,7 +12,8 @@ use Rattle.script.specs.Pieces.{lines}
 use Rattle.listing.specs.Text.{heading, placed, fitting, put}
 use Rattle.listing.proofs.Laws.{fitting-whole, put-whole, placed-whole, placed-length}
 use Rattle.runner.specs.declared.Reading.{Reading}
-use Rattle.runner.specs.Listing.{listing, body, mostLines}
+use Rattle.request.specs.Asks.{mostLines}
+use Rattle.runner.specs.Listing.{listing, body}
 use Rattle.runner.specs.Kept.{next, rest, started, Fit}
 use Rattle.runner.proofs.Laws.{start-fit, start-whole}
 use Rattle.runner.proofs.Bounds.{listing-short}

@@ -1,5 +1,5 @@
 mod Tally
-mod Entries
+pub mod Entries
 mod CallLaws
 mod DoorLaws
 pub mod CoreCalls

@@ -18,7 +18,8 @@ use Rattle.machine.specs.Inside.{Good}
 use Rattle.machine.proofs.Sound.Keeps.{keeps-good}
 use Rattle.listing.specs.Text.{said}
 use Rattle.runner.specs.Kept.{held, over, Held}
-use Rattle.runner.proofs.Over.{over-front}
+use Rattle.core.specs.declared.Answer.{Answer}
+use Rattle.runner.proofs.Over.{over-own, over-front}
 
 -- two results that the listing shows alike, with the same world
 abbrev Alike : Result → Result → Type 0
@@ -70,6 +71,11 @@ Done cs₀ ps₀ expected r cs ps =
     (said (r .answer) ≡ said (expected .answer))
     × ((held (r .machine) cs ps ≡ expected .world)
     × (Held (r .machine) cs ps × ((cs ≡ over (expected .world .committed) cs₀) × (ps ≡ over (expected .world .pending) ps₀))))
+
+-- no call is made: the record and the tables stay
+pub none-done : (m : Machine) (cs ps : List ℕ) → Held m cs ps → (a : Answer)
+    → Done cs ps (record { answer = a; world = held m cs ps }) (record { machine = m; answer = a }) cs ps
+none-done m cs ps h a = (refl, (refl, (h, (sym (over-own (m .objects) cs), sym (over-own (m .cores * m .objects) ps)))))
 
 pub done-same : (cs₀ ps₀ : List ℕ) (x : Result) {r r′ : Outcome} {cs cs′ ps ps′ : List ℕ} → cs ≡ cs′ → ps ≡ ps′ → r ≡ r′ → Done cs₀ ps₀ x r′ cs′ ps′
     → Done cs₀ ps₀ x r cs ps

@@ -18,7 +18,8 @@ use Rattle.script.specs.Pieces.{lines}
 use Rattle.script.specs.Line.{names, spells}
 use Rattle.listing.specs.Text.{line, said}
 use Rattle.listing.proofs.Laws.{word-short, value-short}
-use Rattle.runner.specs.Listing.{nothing, answered, mostLines, listed, named, body, listing}
+use Rattle.request.specs.Asks.{mostLines}
+use Rattle.runner.specs.Listing.{nothing, answered, listed, named, body, listing}
 
 -- a number below 10 to the power of k has at most k digits, for k from 1 on
 few-digits : (k p n : ℕ) → n < 10 ^ suc k → length (spellingIn p n) ≤ suc k

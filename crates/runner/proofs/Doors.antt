@@ -18,7 +18,7 @@ use Rattle.core.proofs.TestLaws.{if-true, true-if, both}
 use Rattle.machine.proofs.Sound.Standing.{Standing, standing}
 use Rattle.script.specs.Pieces.{free}
 use Rattle.runner.specs.declared.Reading.{Reading}
-use Rattle.runner.specs.Listing.{mostLines}
+use Rattle.request.specs.Asks.{mostLines}
 use Rattle.runner.specs.Kept.{held, begun, Fit}
 use Rattle.runner.specs.Doors.{readable, cleared, refusal}
 use Rattle.runner.proofs.Setups.{few-words}

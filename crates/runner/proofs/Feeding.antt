@@ -1,6 +1,6 @@
 -- The runner's loop over a chunk: what holds after each byte, and how each kind of byte keeps it. Assumes nothing.
-use mathlib.Core.Path.{_≡_, refl, sym, ap, subst, _∙_}
-use mathlib.Core.Bool.{Bool, true, false, not, _&&_, true≢false}
+use mathlib.Core.Path.{_≡_, refl, sym, ap, ap₂, subst, _∙_}
+use mathlib.Core.Bool.{Bool, true, false, cond, not, _&&_, true≢false}
 use mathlib.Core.List.{List, [], _∷_, _++_, append-nil, append-assoc}
 use Prim.Native.Nat.{ℕ, suc, _+_, _-_, _*_, _≤_, _<_}
 use native.Mathlib.Omega.{arith}
@@ -14,20 +14,20 @@ use Rattle.script.specs.Pieces.{lines, free}
 use Rattle.script.proofs.Laws.{lines-newline}
 use Rattle.machine.specs.Rule.{World}
 use Rattle.machine.specs.declared.Outcome.{Outcome}
-use Rattle.script.specs.declared.Call.{Call}
+use Rattle.core.specs.declared.Answer.{Answer}
+use Rattle.core.specs.declared.Answer.the-variants.{Ready}
 use Rattle.listing.specs.Text.{line, fitting, put}
 use Rattle.runner.specs.declared.Reading.{Reading}
-use Rattle.runner.specs.declared.lines.Listed.{Listed}
-use Rattle.runner.specs.declared.lines.Ended.{Ended}
-use Rattle.runner.specs.declared.lines.Ended.the-variants.{Calls, Lists}
-use Rattle.runner.specs.Listing.{nothing, called, mostLines}
+use Rattle.request.specs.declared.Asked.{Asked}
+use Rattle.request.specs.declared.Asked.the-variants as Asked
+use Rattle.request.specs.Asks.{mostLines, asks}
+use Rattle.runner.specs.Listing.{nothing}
 use Rattle.runner.specs.Kept.{held, next, begun, rest, Held, Fit, State, state, lineEnd, pastLine, after, fed}
-use Rattle.runner.proofs.LineLaws.{byte-lost, line-said}
-use Rattle.runner.specs.Ends.{onward, leaves, count, goes, needsMachine}
-use Rattle.runner.proofs.Acts.{Done}
+use Rattle.runner.proofs.Asking.{lists, goes, ordered, outcome}
+use Rattle.runner.proofs.LineLaws.{byte-lost, line-said, text, Leads, line-leads}
+use Rattle.runner.proofs.Acts.{Done, none-done}
 use Rattle.runner.proofs.Sizes.{nothing-if-none}
 use Rattle.runner.proofs.Written.{written as put-written}
-use Rattle.runner.proofs.Over.{over-own}
 use Rattle.runner.proofs.Stepping.{reading, past-made, after-skipped, after-ended, after-lost, after-joined}
 
 -- a byte that is no newline, at the end of bytes that are none
@@ -201,96 +201,65 @@ pub room-left : {r₀ : Reading} {cs₀ ps₀ out₀ chunk : List ℕ} {r : Read
     → Feeding r₀ cs₀ ps₀ out₀ chunk r cs ps out written i → i < length chunk → 32 * length chunk ≤ length out₀ → written + 32 ≤ length out
 room-left f h room = omega (arith, f .room, f .out-long, h, room)
 
--- what `end_line` leaves, where `part` is what it leaves of the output from `written` on
-abbrev pub Left : Reading → List ℕ → ℕ → Ended → List ℕ → Type 0
-Left r out written e part =
-    ((w : World) → (r .machine .cores ≡ 0 → w ≡ nothing) → (ls : List (List ℕ))
-    → next true (r .columns) (r .number) w (begun r ∷ ls) ≡ onward e part (r .columns) (r .number) w ls)
-    × (((needsMachine e ≡ true → r .machine .cores ≡ 0 → ⊥) × (count e ≤ 32)
-    × (drop (count e) part ≡ drop (count e) (take (length out - written) (drop written out))) × (goes e ≡ true → r .number ≤ mostLines))
-    × ((w : World) → (r .machine .cores ≡ 0 → w ≡ nothing) → lineEnd (r .columns) (r .number) w (begun r) ≡ leaves e (r .columns) w))
-
 module _ (r₀ : Reading) (cs₀ ps₀ out₀ chunk : List ℕ) (r : Reading) (cs ps out : List ℕ) (written i : ℕ)
     (f : Feeding r₀ cs₀ ps₀ out₀ chunk r cs ps out written i) (h : i < length chunk) (newline : getD chunk i 0 ≡ 10) (going : r .going ≡ true)
-    (within : written ≤ length out) where
-  -- the output, whose part from `written` on was lent and came back
-  abbrev lent-back : List ℕ → List ℕ
-  lent-back part = take written out ++ (part ++ drop (length out - written) (drop written out))
+    (room : written + 32 ≤ length out) (a : Asked) (is : a ≡ asks (r .columns) (r .number) (begun r) (r .machine .cores)) where
+  abbrev w : World
+  w = held (r .machine) cs ps
 
-  line-ends : (going′ : Bool) (at′ : Columns) (m′ : Machine) (k : ℕ) (cs′ ps′ part : List ℕ)
-      → ((ls : List (List ℕ))
-      → next true (r .columns) (r .number) (held (r .machine) cs ps) (begun r ∷ ls)
-      ≡ take k part ++ next going′ at′ (r .number + 1) (held m′ cs′ ps′) ls)
-      → Held m′ cs′ ps′ → (going′ ≡ true → r .number ≤ mostLines)
-      → k ≤ 32 → drop k part ≡ drop k (take (length out - written) (drop written out))
-      → length part ≡ length (take (length out - written) (drop written out))
-      → after (state r cs ps) (getD chunk i 0) ≡ state (reading going′ at′ (r .number + 1) (r .line) 0 m′) cs′ ps′
-      → Feeding r₀ cs₀ ps₀ out₀ chunk (reading going′ at′ (r .number + 1) (r .line) 0 m′) cs′ ps′ (lent-back part) (written + k) (i + 1)
-  line-ends going′ at′ m′ k cs′ ps′ part ends holds lines-few few kept long step =
-      rw (part-last out written, append-nil part)
-      (feeding-ends r₀ cs₀ ps₀ out₀ chunk r cs ps out written i f h newline going going′ at′ m′ k cs′ ps′ part ends holds few
-      (kept ∙ ap (drop k) (part-whole out written)) lines-few (long ∙ ap length (part-whole out written)) within step)
+  -- what the line asks for leads to what is listed
+  leads : Leads (r .columns) (r .number) w (begun r) a
+  leads =
+      subst (Leads (r .columns) (r .number) w (begun r)) (sym is)
+      (line-leads (r .columns) (r .number) w (begun r) (r .machine .cores) (f .fit .some-line) (λ one. ap (λ (m : Machine). m .cores) (f .fit .first-blank one))
+      (nothing-if-none (r .machine) cs ps (f .fit .holds)))
 
-  pub line-lists : (l : Listed) (part : List ℕ) → Left r out written (Lists l) part → length part ≡ length (take (length out - written) (drop written out))
-      → Feeding r₀ cs₀ ps₀ out₀ chunk (reading (l .going) (l .columns) (r .number + 1) (r .line) 0 (r .machine)) cs ps (lent-back part)
-      (written + l .written) (i + 1)
-  unfolding onward leaves
-  line-lists l part left long =
-      let blank = nothing-if-none (r .machine) cs ps (f .fit .holds) in
-      line-ends (l .going) (l .columns) (r .machine) (l .written) cs ps part (left .0 (held (r .machine) cs ps) blank) (f .fit .holds)
-      (left .1 .0 .3) (left .1 .0 .1) (left .1 .0 .2) long
-      (after-ended r cs ps (getD chunk i 0) newline going ∙ ap (pastLine (state r cs ps)) (left .1 .1 (held (r .machine) cs ps) blank)
-      ∙ past-made r cs ps (l .columns) (held (r .machine) cs ps) refl refl (over-own (r .machine .objects) cs)
-      (over-own (r .machine .cores * r .machine .objects) ps))
-
--- a call's output is as it was
-pub call-output : (out part : List ℕ) (written : ℕ) → drop 0 part ≡ drop 0 (take (length out - written) (drop written out))
-    → take written out ++ (part ++ drop (length out - written) (drop written out)) ≡ out
-call-output out part written e =
-    ap (λ (x : List ℕ). take written out ++ (x ++ drop (length out - written) (drop written out))) e
-    ∙ ap (λ (x : List ℕ). take written out ++ x) (take-append-drop (length out - written) (drop written out)) ∙ take-append-drop written out
-
-module _ (r₀ : Reading) (cs₀ ps₀ out₀ chunk : List ℕ) (r : Reading) (cs ps out : List ℕ) (written i : ℕ)
-    (f : Feeding r₀ cs₀ ps₀ out₀ chunk r cs ps out written i) (h : i < length chunk) (newline : getD chunk i 0 ≡ 10) (going : r .going ≡ true)
-    (room : written + 32 ≤ length out) where
-  -- a call that the line asks for is made, and its answer is put where the output is as it was
-  pub line-calls : (call : Call) (part out₁ : List ℕ) → Left r out written (Calls call) part
-      → out₁ ≡ out → (done : Outcome) (cs′ ps′ : List ℕ) → Done cs ps (called (held (r .machine) cs ps) call) done cs′ ps′
-      → (k : ℕ) (put-part : List ℕ)
-      → k ≡ length (fitting (line (r .number) (done .answer)) (take (length out₁ - written) (drop written out₁)))
-      → put-part ≡ put (line (r .number) (done .answer)) (take (length out₁ - written) (drop written out₁))
-      → length put-part ≡ length (take (length out₁ - written) (drop written out₁))
-      → Feeding r₀ cs₀ ps₀ out₀ chunk (reading (r .going) (r .columns) (r .number + 1) (r .line) 0 (done .machine)) cs′ ps′
-      (take written out₁ ++ (put-part ++ drop (length out₁ - written) (drop written out₁))) (written + k) (i + 1)
-  unfolding onward leaves
-  line-calls call part out₁ left same done cs′ ps′ ran k put-part count bytes long =
-      line-ends r₀ cs₀ ps₀ out₀ chunk r cs ps out₁ written i
-      (subst (λ (o : List ℕ). Feeding r₀ cs₀ ps₀ out₀ chunk r cs ps o written i) (sym same) f) h newline going (omega (arith, room₁))
-      (r .going) (r .columns) (done .machine) k cs′ ps′ put-part
+  -- the line's end, where what it asks for has been carried out by the rule: `part` is what it leaves of the output from `written` on
+  line-over : (b : Asked) → a ≡ b → (on : Bool) → on ≡ goes b → (done : Outcome) (cs′ ps′ : List ℕ) → Done cs ps (outcome w b) done cs′ ps′
+      → (k : ℕ) (part : List ℕ)
+      → take k part ≡ text (r .number) w b → k ≤ 32 → drop k part ≡ drop k (drop written out) → length part ≡ length (drop written out)
+      → Feeding r₀ cs₀ ps₀ out₀ chunk (reading on (ordered (r .columns) b) (r .number + 1) (r .line) 0 (done .machine)) cs′ ps′
+      (take written out ++ part) (written + k) (i + 1)
+  line-over b same on goes-on done cs′ ps′ did k part said few kept long =
+      feeding-ends r₀ cs₀ ps₀ out₀ chunk r cs ps out written i f h newline going on (ordered (r .columns) b) (done .machine) k cs′ ps′ part
       (λ ls.
-      left .0 (held (r .machine) cs ps) blank ls
-      ∙ rw (going, ran .1 .0, put-line .0, line-said (r .number) (done .answer) _ (ran .0)) refl)
-      (ran .1 .1 .0) (λ e. left .1 .0 .3 refl) (put-line .1) (put-line .2) long
-      (after-ended r cs ps (getD chunk i 0) newline going ∙ ap (pastLine (state r cs ps)) (left .1 .1 (held (r .machine) cs ps) blank)
-      ∙ past-made r cs ps (r .columns) (called (held (r .machine) cs ps) call .world) (sym going)
-      (sym (ap (λ (w : World). w .machine) (ran .1 .0))) (sym (ran .1 .1 .1 .0)) (sym (ran .1 .1 .1 .1)))
+      led .listing ls
+      ∙ ap₂ _++_ (sym said)
+      (ap₂ (λ (x : Bool) (v : World). next x (ordered (r .columns) b) (r .number + 1) v ls) (sym goes-on) (sym (did .1 .0))))
+      (did .1 .1 .0) few kept (λ e. led .few-lines (sym goes-on ∙ e)) long (omega (arith, room))
+      (after-ended r cs ps (getD chunk i 0) newline going ∙ ap (pastLine (state r cs ps)) (led .leaving)
+      ∙ past-made r cs ps (ordered (r .columns) b) (outcome w b .world) (sym goes-on) (sym (ap (λ (v : World). v .machine) (did .1 .0)))
+      (sym (did .1 .1 .1 .0)) (sym (did .1 .1 .1 .1)))
     where
-      blank : r .machine .cores ≡ 0 → held (r .machine) cs ps ≡ nothing
-      blank = nothing-if-none (r .machine) cs ps (f .fit .holds)
+      led : Leads (r .columns) (r .number) w (begun r) b
+      led = subst (Leads (r .columns) (r .number) w (begun r)) same leads
 
-      room₁ : written + 32 ≤ length out₁
-      room₁ = subst (λ (o : List ℕ). written + 32 ≤ length o) (sym same) room
+  -- the line of names: nothing is listed
+  pub order-done : (at′ : Columns) → a ≡ Asked.Order at′
+      → Feeding r₀ cs₀ ps₀ out₀ chunk (reading (r .going) at′ (r .number + 1) (r .line) 0 (r .machine)) cs ps out written (i + 1)
+  order-done at′ same =
+      subst (λ (n : ℕ). Feeding r₀ cs₀ ps₀ out₀ chunk (reading (r .going) at′ (r .number + 1) (r .line) 0 (r .machine)) cs ps out n (i + 1)) (omega arith)
+      (subst (λ (o : List ℕ). Feeding r₀ cs₀ ps₀ out₀ chunk (reading (r .going) at′ (r .number + 1) (r .line) 0 (r .machine)) cs ps o (written + 0) (i + 1))
+      (take-append-drop written out)
+      (line-over (Asked.Order at′) same (r .going) going (record { machine = r .machine; answer = Ready }) cs ps
+      (none-done (r .machine) cs ps (f .fit .holds) Ready) 0 (drop written out) refl (omega arith) refl refl))
 
-      put-line : (take k put-part ≡ line (r .number) (done .answer)) × (k ≤ 32)
-          × (drop k put-part ≡ drop k (take (length out₁ - written) (drop written out₁)))
-      put-line = put-written (r .number) (done .answer) _ put-part k (part-room out₁ written room₁) count bytes
+  -- the part of the output from `written` on, as it is lent
+  abbrev lent : List ℕ
+  lent = take (length out - written) (drop written out)
 
--- the same by other names
-pub feeding-same : {r₀ : Reading} {cs₀ ps₀ out₀ chunk l : List ℕ} {n length i : ℕ} {going going′ : Bool} {at at′ : Columns} {m m′ : Machine}
-    {cs cs′ ps ps′ out out′ : List ℕ} {k k′ : ℕ} → cs ≡ cs′ → ps ≡ ps′ → out ≡ out′ → going ≡ going′ → at ≡ at′ → m ≡ m′ → k ≡ k′
-    → Feeding r₀ cs₀ ps₀ out₀ chunk (reading going′ at′ n l length m′) cs′ ps′ out′ k′ i
-    → Feeding r₀ cs₀ ps₀ out₀ chunk (reading going at n l length m) cs ps out k i
-feeding-same a b c d e f g x = rw (a, b, c, d, e, f, g) x
+  -- any other line: its answer is put in that part, which comes back
+  pub line-done : (b : Asked) → a ≡ b → lists b ≡ true → (on : Bool) → on ≡ goes b → (m′ : Machine) (answer : Answer) (cs′ ps′ : List ℕ)
+      → Done cs ps (outcome w b) (record { machine = m′; answer = answer }) cs′ ps′ → (k : ℕ) (part : List ℕ)
+      → k ≡ length (fitting (line (r .number) answer) lent) → part ≡ put (line (r .number) answer) lent → length part ≡ length lent
+      → Feeding r₀ cs₀ ps₀ out₀ chunk (reading on (ordered (r .columns) b) (r .number + 1) (r .line) 0 m′) cs′ ps′
+      (take written out ++ (part ++ drop (length out - written) (drop written out))) (written + k) (i + 1)
+  line-done b same listed on goes-on m′ answer cs′ ps′ did k part count bytes long =
+      let put-part = put-written (r .number) answer lent part k (part-room out written room) count bytes in
+      rw (part-last out written, append-nil part)
+      (line-over b same on goes-on (record { machine = m′; answer = answer }) cs′ ps′ did k part
+      (put-part .0 ∙ line-said (r .number) answer _ (did .0) ∙ sym (ap (λ (x : Bool). cond x (line (r .number) (outcome w b .answer)) []) listed))
+      (put-part .1) (put-part .2 ∙ ap (drop k) (part-whole out written)) (long ∙ ap length (part-whole out written)))
 
 -- the whole chunk
 pub feeding-done : {r₀ : Reading} {cs₀ ps₀ out₀ chunk : List ℕ} {r : Reading} {cs ps out : List ℕ} {written i : ℕ}

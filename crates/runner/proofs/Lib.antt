@@ -5,6 +5,7 @@ mod Acts
 mod Sizes
 mod ByCall
 mod InPlace
+mod Asking
 mod LineLaws
 mod Stepping
 mod Written

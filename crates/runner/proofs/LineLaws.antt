@@ -1,34 +1,29 @@
 -- What the listing says of a line that has ended, and of a byte more of a line that has not. Assumes nothing.
-use mathlib.Core.Path.{_≡_, refl, sym, ap, _∙_}
-use mathlib.Core.Bool.{Bool, true, false}
+use mathlib.Core.Path.{_≡_, refl, sym, ap, subst, _∙_}
+use mathlib.Core.Bool.{Bool, true, false, cond, true≢false}
 use mathlib.Core.List.{List, [], _∷_, _++_, append-nil}
 use Prim.Native.Nat.{ℕ, _+_, _≤_, _<_}
 use native.Mathlib.Omega.{arith}
-use lib.Dec.{eqb}
+use lib.Dec.{eqb, ltb}
 use lib.ListN.{length, length-append}
-use types.Run.{OneOf, miss}
-use denote.Enum.Declared.{tagOf}
-use borrow.Author.Tests.{ne-eqb, lt-ltb, le-ltb}
+use borrow.Author.Tests.{ne-eqb, lt-ltb, le-ltb, eqb-true, eqb-false, ltb-true, ltb-false}
 use Rattle.machine.specs.Rule.{World}
 use Rattle.core.specs.declared.Answer.{Answer}
 use Rattle.core.specs.declared.Answer.the-variants.{Refused}
 use Rattle.script.specs.declared.Columns.{Columns}
 use Rattle.script.specs.declared.Names.{Names}
 use Rattle.script.specs.declared.Names.the-variants as Names
-use Rattle.script.specs.declared.Line.{Line}
-use Rattle.script.specs.declared.Line.the-variants as Line
-use Rattle.script.specs.declared.Call.{Call}
-use Rattle.script.specs.declared.Call.the-variants as Call
-use Rattle.script.proofs.Call as CallType
 use Rattle.script.specs.Pieces.{lines, pieces, onto, ended, free}
-use Rattle.script.specs.Line.{names, spells, fields, ordered, place}
+use Rattle.script.specs.Line.{names, spells, fields, ordered as inOrder, place}
 use Rattle.script.proofs.Laws.{too-long, names-too-long, lines-begun, lines-last, some-piece, first, others, rest-of-line, later-lines}
 use Rattle.decimal.specs.Spelling.{spelling}
 use Rattle.listing.specs.Text.{line, said}
-use Rattle.runner.specs.Listing.{nothing, called, answered, mostLines, listed, named, body}
+use Rattle.request.specs.declared.Asked.{Asked}
+use Rattle.request.specs.declared.Asked.the-variants as Asked
+use Rattle.request.specs.Asks.{mostLines, ofNames, ofLine, asks}
+use Rattle.runner.specs.Listing.{nothing, answered, listed, named, body}
 use Rattle.runner.specs.Kept.{next, lineEnd, namesEnd}
-use Rattle.runner.specs.Ends.{onMachine}
-use Rattle.runner.proofs.ByCall.{blank-called}
+use Rattle.runner.proofs.Asking.{lists, goes, ordered, outcome, Plain, line-plain, line-answered}
 
 -- ---- a line that has ended
 
@@ -79,45 +74,55 @@ module _ (at : Columns) (w : World) (l : List ℕ) (ls : List (List ℕ)) where
         after : (ls : List (List ℕ)) → next true at (n + 1) (answered w (spells at l) .world) ls ≡ listed at (answered w (spells at l) .world) (n + 1) ls
         after ls = rw (ne-eqb (n + 1) 1 (λ e. omega (arith, later, e))) refl
 
--- a line that spells no call, and one that does
-module _ (at : Columns) (w : World) (l : List ℕ) (ls : List (List ℕ)) (n : ℕ) (later : 1 < n) (few : n ≤ mostLines) where
-  pub line-malformed : spells at l ≡ Line.Malformed → next true at n w (l ∷ ls) ≡ line n (Refused 11) ++ next true at (n + 1) w ls
-  unfolding answered
-  line-malformed e = line-run at w l ls n later few ∙ rw e refl
+-- what is listed of line n
+abbrev pub text : ℕ → World → Asked → List ℕ
+text n w a = cond (lists a) (line n (outcome w a .answer)) []
 
-  pub line-malformed-end : spells at l ≡ Line.Malformed → lineEnd at n w l ≡ record { going = true; columns = at; world = w }
-  unfolding answered
-  line-malformed-end e = line-run-end at w l ls n later few ∙ rw e refl
+-- what line n, whose bytes are l, leads to, if it asks for this
+pub record Leads (at : Columns) (n : ℕ) (w : World) (l : List ℕ) (a : Asked) : Type 0 where
+  pub listing : (ls : List (List ℕ)) → next true at n w (l ∷ ls) ≡ text n w a ++ next (goes a) (ordered at a) (n + 1) (outcome w a .world) ls
+  pub leaving : lineEnd at n w l ≡ record { going = goes a; columns = ordered at a; world = outcome w a .world }
+  pub few-lines : goes a ≡ true → n ≤ mostLines
 
-  pub line-called-end : (call : Call) → spells at l ≡ Line.Spells call
-      → lineEnd at n w l ≡ record { going = true; columns = at; world = called w call .world }
-  unfolding answered
-  line-called-end call e = line-run-end at w l ls n later few ∙ rw e refl
+module _ (at : Columns) (n : ℕ) (w : World) (l : List ℕ) where
+  names-lead : n ≡ 1 → w ≡ nothing → Leads at n w l (ofNames (names l))
+  unfolding ofNames
+  names-lead one blank = subst (λ (k : ℕ). Leads at k w l (ofNames (names l))) (sym one) (go (names l) refl)
+    where
+      go : (x : Names) → names l ≡ x → Leads at 1 w l (ofNames x)
+      go (Names.Order at′) e =
+          record {
+            listing = λ ls. names-good at w l ls at′ e ∙ ap (λ (v : World). next true at′ 2 v ls) (sym blank);
+            leaving = names-good-end at w l [] at′ e;
+            few-lines = λ on. omega arith;
+          }
+      go Names.Malformed e =
+          record { listing = λ ls. names-bad at w l ls e; leaving = names-bad-end at w l [] e; few-lines = λ on. absurd (true≢false (sym on)) }
 
-  pub line-called : (call : Call) → spells at l ≡ Line.Spells call
-      → next true at n w (l ∷ ls) ≡ line n (called w call .answer) ++ next true at (n + 1) (called w call .world) ls
-  unfolding answered
-  line-called call e = line-run at w l ls n later few ∙ rw e refl
+  module _ (later : 1 < n) where
+    past-lead : mostLines < n → Leads at n w l (Asked.Refused 11 false)
+    past-lead h =
+        record { listing = λ ls. past-most at w l ls n later h; leaving = past-most-end at w l [] n later h; few-lines = λ on. absurd (true≢false (sym on)) }
 
-  -- with no machine, any call but setup is refused
-  module _ (call : Call) (e : spells at l ≡ Line.Spells call) (none : w ≡ nothing)
-      (h : OneOf (1 ∷ 2 ∷ 3 ∷ 4 ∷ 5 ∷ 6 ∷ 7 ∷ []) (tagOf CallType.the-type call)) where
-    pub line-unfounded : next true at n w (l ∷ ls) ≡ line n (Refused 2) ++ next true at (n + 1) w ls
-    line-unfounded = line-called call e ∙ rw (none, blank-called call h) refl
+    values-lead : n ≤ mostLines → (a : Asked) → Plain a → outcome w a ≡ answered w (spells at l) → Leads at n w l a
+    values-lead h a plain same =
+        record {
+          listing = λ ls. rw (plain .is-listed, plain .goes-on, plain .same-order at, same) (line-run at w l ls n later h);
+          leaving = rw (plain .goes-on, plain .same-order at, same) (line-run-end at w l [] n later h);
+          few-lines = λ on. h;
+        }
 
-    pub line-unfounded-end : lineEnd at n w l ≡ record { going = true; columns = at; world = w }
-    line-unfounded-end = line-called-end call e ∙ rw (none, blank-called call h) refl
-
--- the first of the enum needs no machine
-pub setup-alone : (call : Call) → OneOf (0 ∷ []) (tagOf CallType.the-type call) → onMachine call ≡ false
-setup-alone (Call.Setup cores cards) h = refl
-setup-alone (Call.Release c number deadline) h = absurd (miss (0 ∷ []) 1 tt h)
-setup-alone (Call.Begin c) h = absurd (miss (0 ∷ []) 2 tt h)
-setup-alone (Call.Read c d) h = absurd (miss (0 ∷ []) 3 tt h)
-setup-alone (Call.Write c d v) h = absurd (miss (0 ∷ []) 4 tt h)
-setup-alone (Call.Commit c) h = absurd (miss (0 ∷ []) 5 tt h)
-setup-alone (Call.GiveUp c) h = absurd (miss (0 ∷ []) 6 tt h)
-setup-alone (Call.Finish c) h = absurd (miss (0 ∷ []) 7 tt h)
+  pub line-leads : (cores : ℕ) → 0 < n → (n ≡ 1 → cores ≡ 0) → (cores ≡ 0 → w ≡ nothing) → Leads at n w l (asks at n l cores)
+  unfolding asks
+  line-leads cores some first none = go (eqb n 1) refl (ltb mostLines n) refl
+    where
+      go : (p : Bool) → eqb n 1 ≡ p → (q : Bool) → ltb mostLines n ≡ q
+          → Leads at n w l (cond p (ofNames (names l)) (cond q (Asked.Refused 11 false) (ofLine cores (spells at l))))
+      go true e q t = let one = eqb-true n 1 e in names-lead one (none (first one))
+      go false e true t = past-lead (omega (arith, some, eqb-false n 1 e)) (ltb-true mostLines n t)
+      go false e false t =
+          values-lead (omega (arith, some, eqb-false n 1 e)) (ltb-false mostLines n t) (ofLine cores (spells at l)) (line-plain cores (spells at l))
+          (line-answered cores w none (spells at l))
 
 -- ---- a byte more of a line that has not ended
 
@@ -165,4 +170,4 @@ unfolding next body named lines pieces ended
 no-names at w = rw empty-bad refl
   where
     empty-bad : names [] ≡ Names.Malformed
-    empty-bad = unfold names fields ordered place pieces in refl
+    empty-bad = unfold names fields inOrder place pieces in refl

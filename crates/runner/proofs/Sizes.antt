@@ -1,7 +1,6 @@
 -- A record's own words of the tables, at most 64 and at most 1,024, and when it is sound. Assumes nothing.
 use mathlib.Core.Path.{_≡_, sym, ap, subst, _∙_}
 use mathlib.Core.Logic.{⊎-elim}
-use mathlib.Core.Bool.{true}
 use mathlib.Core.List.{List}
 use Prim.Native.Nat.{ℕ, _*_, _≤_}
 use lib.ListN.{length}
@@ -9,12 +8,8 @@ use native.Mathlib.Omega.{arith}
 use Rattle.machine.specs.declared.Machine.{Machine}
 use Rattle.machine.specs.Inside.{Good}
 use Rattle.machine.proofs.Sound.Keeps.{whole}
-use Rattle.script.specs.declared.Call.{Call}
-use Rattle.runner.specs.declared.lines.Ended.{Ended}
-use Rattle.runner.specs.declared.lines.Ended.the-variants.{Calls}
 use Rattle.runner.specs.Listing.{nothing}
 use Rattle.runner.specs.Kept.{held, Held}
-use Rattle.runner.specs.Ends.{onMachine, needsMachine}
 use Rattle.runner.proofs.Setups.{few-words}
 
 module _ (m : Machine) (cs ps : List ℕ) (h : Held m cs ps) where
@@ -36,10 +31,5 @@ module _ (m : Machine) (cs ps : List ℕ) (h : Held m cs ps) where
   nothing-if-none e =
       ap (λ (x : Machine). held x cs ps) (⊎-elim (λ b. b) (λ g. absurd (omega (arith, e, whole g .rules .some-cores))) (h .blank-or-good))
 
-  good-if-some : (m .cores ≡ 0 → ⊥) → Good (held m cs ps)
+  pub good-if-some : (m .cores ≡ 0 → ⊥) → Good (held m cs ps)
   good-if-some e = ⊎-elim (λ b. absurd (e (ap (λ (x : Machine). x .cores) b))) (λ g. g) (h .blank-or-good)
-
-  -- the end of a line asks for a call that needs a machine only where there is one
-  pub good-for-call : (e : Ended) (call : Call) → e ≡ Calls call → (needsMachine e ≡ true → m .cores ≡ 0 → ⊥) → (x : Call) → call ≡ x
-      → onMachine x ≡ true → Good (held m cs ps)
-  good-for-call e call is found x spelt needs = good-if-some (found (ap needsMachine is ∙ ap onMachine spelt ∙ needs))

@@ -1,21 +1,13 @@
 -- What a line of the listing leaves in an output that has room for it. Assumes nothing.
 use mathlib.Core.Path.{_≡_, refl, sym, ap, subst, _∙_}
-use mathlib.Core.Bool.{Bool, false}
 use mathlib.Core.List.{List, _++_}
-use Prim.Native.Nat.{ℕ, _+_, _≤_}
+use Prim.Native.Nat.{ℕ, _≤_}
 use lib.ListN.{length, take, drop}
 use lib.Seq.{take-at, drop-at}
 use borrow.Author.Tests.{le-ltb}
-use Rattle.machine.specs.Rule.{World}
 use Rattle.core.specs.declared.Answer.{Answer}
-use Rattle.core.specs.declared.Answer.the-variants.{Refused}
-use Rattle.script.specs.declared.Columns.{Columns}
 use Rattle.listing.specs.Text.{line, fitting, put}
 use Rattle.listing.proofs.Laws.{line-short}
-use Rattle.runner.specs.declared.lines.Ended.{Ended}
-use Rattle.runner.specs.declared.lines.Ended.the-variants.{Lists}
-use Rattle.runner.specs.Kept.{next}
-use Rattle.runner.specs.Ends.{onward, leaves, count, goes, needsMachine}
 
 -- the line stands in front, and the bytes after it keep what they held
 in-front : (n : ℕ) (a : Answer) (out out′ : List ℕ) (k : ℕ) → k ≡ length (line n a) → out′ ≡ line n a ++ drop (length (line n a)) out
@@ -32,23 +24,11 @@ module _ (n : ℕ) (a : Answer) (out out′ : List ℕ) (k : ℕ) (room : 32 ≤
   fits : fitting (line n a) out ≡ line n a
   fits = unfold fitting in rw (le-ltb (length out) 32 room) refl
 
-  pub put-long : k ≡ length (line n a)
+  put-long : k ≡ length (line n a)
   put-long = count ∙ ap length fits
 
-  pub put-whole : out′ ≡ line n a ++ drop (length (line n a)) out
+  put-whole : out′ ≡ line n a ++ drop (length (line n a)) out
   put-whole = bytes ∙ (unfold put in rw fits refl)
 
   pub written : (take k out′ ≡ line n a) × (k ≤ 32) × (drop k out′ ≡ drop k out)
   written = in-front n a out out′ k put-long put-whole
-
--- what a refusal leaves, and whether lines are still read after it
-pub refusal-left : (at : Columns) (n k : ℕ) (going : Bool) (out out′ : List ℕ) (r : Ended)
-    → r ≡ Lists (record { going = going; columns = at; written = length (line n (Refused k)) })
-    → out′ ≡ line n (Refused k) ++ drop (length (line n (Refused k))) out
-    → ((w : World) (ls : List (List ℕ)) → onward r out′ at n w ls ≡ line n (Refused k) ++ next going at (n + 1) w ls)
-    × (needsMachine r ≡ false) × (count r ≤ 32) × (drop (count r) out′ ≡ drop (count r) out) × (goes r ≡ going)
-    × ((w : World) → record { going = going; columns = at; world = w } ≡ leaves r at w)
-unfolding onward leaves
-refusal-left at n k going out out′ r is whole =
-    let put = in-front n (Refused k) out out′ _ refl whole in
-    rw is (λ w ls. ap (λ (x : List ℕ). x ++ next going at (n + 1) w ls) (put .0), refl, put .1, put .2, refl, λ w. refl)

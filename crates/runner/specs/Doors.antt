@@ -8,7 +8,7 @@ use Rattle.machine.specs.Sound.{sound}
 use Rattle.script.specs.Pieces.{free}
 use Rattle.runner.specs.declared.Reading.{Reading}
 use Rattle.runner.specs.Kept.{begun}
-use Rattle.runner.specs.Listing.{mostLines}
+use Rattle.request.specs.Asks.{mostLines}
 
 -- whether a reading is sound: its line has a number, at most 1,000,001 while lines are read; at most 65 bytes of it are kept, none of
 -- them a newline; and there is no machine, or after line 1 a sound one

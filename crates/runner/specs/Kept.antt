@@ -16,7 +16,8 @@ use Rattle.script.specs.declared.Names.the-variants.{Order, Malformed}
 use Rattle.script.specs.Line.{names, spells}
 use Rattle.script.specs.Pieces.{lines, free}
 use Rattle.runner.specs.declared.Reading.{Reading}
-use Rattle.runner.specs.Listing.{answered, body, listed, mostLines}
+use Rattle.request.specs.Asks.{mostLines}
+use Rattle.runner.specs.Listing.{answered, body, listed}
 
 -- the record with the first words of the two lent tables, as many as it has cards and cores × cards
 abbrev pub held : Machine → List ℕ → List ℕ → World

@@ -18,6 +18,7 @@ use Rattle.script.specs.declared.Names.the-variants as Names
 use Rattle.script.specs.Pieces.{lines}
 use Rattle.script.specs.Line.{names, spells}
 use Rattle.listing.specs.Text.{heading, line}
+use Rattle.request.specs.Asks.{mostLines}
 
 -- ---- what a line does
 
@@ -60,10 +61,6 @@ answered w (Spells call) = called w call
 answered w Malformed = record { answer = Refused 11; world = w }
 
 -- ---- the listing
-
--- how many lines are read, the line of names among them
-abbrev pub mostLines : ℕ
-mostLines = 1000000
 
 -- what is listed of these lines, the first of them with the number n: each gets its answer and the next line is read; line 1,000,001
 -- is refused 11 and ends the run

@@ -2,21 +2,21 @@
 // No test of the record is made; the doors in lib.rt test, and then call these.
 use crate::Fed;
 use crate::Reading;
-use crate::calls::Asked;
-use crate::calls::asked_by;
-use crate::calls::set_up;
-use crate::lines::Ended;
-use crate::lines::end_line;
+use crate::setup::set_up;
+use core::Answer;
 use core::calls::Seen;
 use core::calls::act_on;
 use core::calls::object_of;
 use core::calls::settle;
 use core::inside::transaction::abort;
-use core::inside::transaction::holds_back;
 use core::inside::transaction::is_struck;
+use listing::put_line;
 use machine::inside::calls::find;
+use machine::inside::commit::ahead_of;
 use machine::inside::commit::reach_of;
 use machine::inside::commit::write_back;
+use request::Asked;
+use request::end_line;
 ghost use mathlib.Core.Path.{_≡_};
 ghost use mathlib.Core.Bool.{_||_};
 ghost use lib.Dec.{eqb, ltb};
@@ -56,92 +56,69 @@ pub fn feed(
         i += 1;
         if b == b'\n' {
             if going {
-                let ended = end_line(
-                    columns,
-                    number,
-                    &line[..length],
-                    machine.cores,
-                    &mut output[written..],
-                );
-                match ended {
-                    Ended::Calls(call) => {
-                        let asked = asked_by(call);
-                        let answer = match asked {
-                            Asked::Anew(cores, cards) => {
-                                let done = set_up(cores, cards, committed, pending);
-                                machine = done.machine;
-                                done.answer
-                            }
-                            Asked::Commit(core) => {
-                                let objects = machine.objects as usize;
-                                let words = machine.cores as usize * objects;
-                                let to = find(core, 0, machine.cores, machine.objects);
-                                let c = to.core;
-                                let k = machine.core[c];
-                                let mut ahead: u8 = 16;
-                                let mut rival = machine.cores;
-                                while 0 < rival {
-                                    rival -= 1;
-                                    let other = machine.core[rival as usize];
-                                    if holds_back(other, k) {
-                                        ahead = rival;
-                                    }
-                                }
-                                let done = settle(to.refusal, k, ahead);
-                                let after = done.core;
-                                machine.core[c] = after;
-                                machine.commits = machine.commits + done.commits;
-                                let ws = done.writes;
-                                write_back(
-                                    ws,
-                                    c * objects,
-                                    &mut committed[..objects],
-                                    &pending[..words],
-                                    &mut machine.versions,
-                                );
-                                let mut e: usize = 0;
-                                let reach = reach_of(ws);
-                                while e < reach {
-                                    let other = machine.core[e];
-                                    if is_struck(ws, other) {
-                                        machine.core[e] = abort(other);
-                                    }
-                                    e += 1;
-                                }
-                                done.answer
-                            }
-                            Asked::One(core, act) => {
-                                let to = find(core, object_of(act), machine.cores, machine.objects);
-                                let c = to.core;
-                                let d = to.object;
-                                let at = c * machine.objects as usize + d;
-                                let k = machine.core[c];
-                                let seen = Seen {
-                                    tickets: machine.tickets,
-                                    give_ups: machine.give_ups,
-                                    committed: committed[d],
-                                    pending: pending[at],
-                                    version: machine.versions[d],
-                                };
-                                let done = act_on(to.refusal, act, k, seen);
-                                let after = done.core;
-                                machine.core[c] = after;
-                                machine.tickets = done.tickets;
-                                machine.give_ups = done.give_ups;
-                                pending[at] = done.pending;
-                                done.answer
-                            }
-                        };
-                        written += listing::put_line(number, answer, &mut output[written..]);
-                    }
-                    Ended::Lists(listed) => {
-                        going = listed.going;
-                        columns = listed.columns;
-                        written += listed.written;
-                    }
-                }
+                let n = number;
+                let asked = end_line(columns, n, &line[..length], machine.cores);
                 number += 1;
                 length = 0;
+                match asked {
+                    Asked::Order(order) => columns = order,
+                    Asked::Refused(refusal, on) => {
+                        going = on;
+                        let answer = Answer::Refused(refusal);
+                        written += put_line(n, answer, &mut output[written..]);
+                    }
+                    Asked::Setup(cores, cards) => {
+                        let done = set_up(cores, cards, committed, pending);
+                        machine = done.machine;
+                        let answer = done.answer;
+                        written += put_line(n, answer, &mut output[written..]);
+                    }
+                    Asked::Commit(core) => {
+                        let to = find(core, 0, machine.cores, machine.objects);
+                        let c = to.core;
+                        let k = machine.core[c];
+                        let done = settle(to.refusal, k, ahead_of(machine, k));
+                        let after = done.core;
+                        machine.core[c] = after;
+                        machine.commits = machine.commits + done.commits;
+                        let ws = done.writes;
+                        let base = c * machine.objects as usize;
+                        write_back(ws, base, committed, pending, &mut machine.versions);
+                        let mut e: usize = 0;
+                        let reach = reach_of(ws);
+                        while e < reach {
+                            let other = machine.core[e];
+                            if is_struck(ws, other) {
+                                machine.core[e] = abort(other);
+                            }
+                            e += 1;
+                        }
+                        let answer = done.answer;
+                        written += put_line(n, answer, &mut output[written..]);
+                    }
+                    Asked::One(core, act) => {
+                        let to = find(core, object_of(act), machine.cores, machine.objects);
+                        let c = to.core;
+                        let d = to.object;
+                        let at = c * machine.objects as usize + d;
+                        let k = machine.core[c];
+                        let seen = Seen {
+                            tickets: machine.tickets,
+                            give_ups: machine.give_ups,
+                            committed: committed[d],
+                            pending: pending[at],
+                            version: machine.versions[d],
+                        };
+                        let done = act_on(to.refusal, act, k, seen);
+                        let after = done.core;
+                        machine.core[c] = after;
+                        machine.tickets = done.tickets;
+                        machine.give_ups = done.give_ups;
+                        pending[at] = done.pending;
+                        let answer = done.answer;
+                        written += put_line(n, answer, &mut output[written..]);
+                    }
+                }
             }
         } else if length < 65 {
             line[length] = b;

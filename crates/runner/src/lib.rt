@@ -16,9 +16,8 @@ ghost use lib.ListN.{length, take, drop};
 ghost use Rattle.runner.specs.Kept.{Fit, rest, state, started, fed, finished};
 ghost use Rattle.runner.specs.Doors.{cleared, refusal};
 
-mod calls;
 pub mod inside;
-mod lines;
+mod setup;
 mod soundness;
 
 // What is kept of a script between two chunks.

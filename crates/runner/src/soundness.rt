@@ -8,7 +8,7 @@ ghost use lib.Dec.{eqb, leb, ltb};
 ghost use Rattle.core.specs.Tidy.{_⇒_};
 ghost use Rattle.machine.specs.Sound.{sound};
 ghost use Rattle.script.specs.Pieces.{free};
-ghost use Rattle.runner.specs.Listing.{mostLines};
+ghost use Rattle.request.specs.Asks.{mostLines};
 ghost use Rattle.runner.specs.Doors.{readable, cleared, refusal};
 
 // The greatest number that a line may have while lines are read.

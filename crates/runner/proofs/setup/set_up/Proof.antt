@@ -1,4 +1,4 @@
--- `runner::calls::set_up` meets its contract: setup accepts the numbers in range with the words that they ask for, and refuses the
+-- `runner::setup::set_up` meets its contract: setup accepts the numbers in range with the words that they ask for, and refuses the
 -- others with none. Assumes nothing.
 use mathlib.Core.Path.{sym, subst, _∙_}
 use Prim.Native.Nat.{ℕ, _*_, _≤_}
@@ -7,8 +7,8 @@ use lib.Seq.{length-take-le}
 use denote.Ref.{now}
 use borrow.Author.Needs.{needs}
 use Rattle.runner.proofs.Setups.{few-cards, few-words, set-up-accepts, set-up-refuses}
-use Rattle.runner.proofs.calls.set_up.Statement.{statement}
-use Rattle.runner.proofs.calls.set_up.Tie as tie
+use Rattle.runner.proofs.setup.set_up.Statement.{statement}
+use Rattle.runner.proofs.setup.set_up.Tie as tie
 
 in-range-requires : tie.Need-in-range-requires
 in-range-requires c κs = search needs

@@ -1,9 +1,9 @@
--- `runner::calls::asked_by` meets its contract. Assumes nothing.
+-- `request::founded` meets its contract. Assumes nothing.
 use mathlib.Core.Path.{refl}
-use Rattle.runner.specs.Listing.{request}
 use borrow.Author.Needs.{needs}
-use Rattle.runner.proofs.calls.asked_by.Statement.{statement}
-use Rattle.runner.proofs.calls.asked_by.Tie as tie
+use Rattle.request.specs.Asks.{made}
+use Rattle.request.proofs.founded.Statement.{statement}
+use Rattle.request.proofs.founded.Tie as tie
 
 enum-known-call : tie.Need-enum-known-call
 enum-known-call c = search needs
@@ -30,39 +30,39 @@ enum-known-call-8 : tie.Need-enum-known-call-8
 enum-known-call-8 c = search needs
 
 returns : tie.Need-returns
-unfolding request
+unfolding made
 returns c = rw (c .before .call .given .1) refl
 
 returns-2 : tie.Need-returns-2
-unfolding request
+unfolding made
 returns-2 c = rw (c .before .call2 .given .1) refl
 
 returns-3 : tie.Need-returns-3
-unfolding request
+unfolding made
 returns-3 c = rw (c .before .call3 .given .1) refl
 
 returns-4 : tie.Need-returns-4
-unfolding request
+unfolding made
 returns-4 c = rw (c .before .call4 .given .1) refl
 
 returns-5 : tie.Need-returns-5
-unfolding request
+unfolding made
 returns-5 c = rw (c .before .call5 .given .1) refl
 
 returns-6 : tie.Need-returns-6
-unfolding request
+unfolding made
 returns-6 c = rw (c .before .call6 .given .1) refl
 
 returns-7 : tie.Need-returns-7
-unfolding request
+unfolding made
 returns-7 c = rw (c .before .call7 .given .1) refl
 
 returns-8 : tie.Need-returns-8
-unfolding request
+unfolding made
 returns-8 c = rw (c .before .call8 .given .1) refl
 
-pub asked-by-spec : {M : Type 1} → statement M
-asked-by-spec =
+pub founded-spec : {M : Type 1} → statement M
+founded-spec =
     tie.close
     (tie.spec
     enum-known-call
