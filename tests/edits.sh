@@ -9,13 +9,18 @@ cd "${1:-$(dirname "$0")/..}" || exit 1
 passed=0
 failed=0
 for edit in crates/*/must-fail/*.edit; do
-  names=$(sed -n 's/^# wrong: //p' "$edit")
+  # a line of names in another form would be passed over, and a name twice would count twice
+  if grep -iE '^# *wrong *:' "$edit" | grep -qvE '^# wrong:( [A-Za-z0-9_/]+)+$'; then
+    failed=$((failed + 1))
+    echo "$edit: a line of names is not in the form '# wrong: NAME NAME ..'"
+  fi
+  names=$(sed -n 's/^# wrong: //p' "$edit" | tr ' ' '\n' | sort -u)
   [ -n "$names" ] || continue
   crate=$(basename "$(dirname "$(dirname "$edit")")")
   log=target/must-fail/$crate/$(basename "$edit" .edit)/.log
   for name in $names; do
     # a proof that the crate has, or one that is searched for
-    if grep -F "/proofs/$name/Proof.antt:" "$log" | grep ': error: ' | grep -qvE ' was not admitted | has no .Need-' ||
+    if grep -E "^[^:]*/proofs/$name/Proof\.antt:[0-9]+:[0-9]+: error: " "$log" | grep -qvE ' was not admitted | has no .Need-' ||
       grep -q "^fn $crate::${name//\//::}: no proof: .*\`search\` does not close " "$log"; then
       passed=$((passed + 1))
     else
