@@ -1,8 +1,10 @@
 #!/usr/bin/env bash
 # Machines that are wrong in crates/core, definition, code and proofs alike, and in machine's rule where it says the same: core is proved,
-# and the claims about whole runs must refuse machine over it. tests/knots/*.edit are must-fail edits with paths that start at crates/;
-# '# claims: NAME NAME ..' names files of crates/machine/proofs, and each must be refused by itself, at a fact: not because something
-# beneath it is, nor at a name that it lacks. Two at a time. Ends in 'N passed, M failed'.
+# and the claims about whole runs must refuse machine over it. tests/knots/*.edit are must-fail edits with paths that start at crates/.
+# '# claims: NAME NAME ..' names files of crates/machine/proofs, or declarations in them (FILE:declaration), and each must be refused by
+# itself, at a fact: not because something beneath it is, nor at a name that it lacks. An edit may hold several wrong machines, none of
+# which is refused where another must be: '# knot: NAME: words' and a line of claims for each, and no claim twice; without '# knot:' it
+# is one, named as its file. Two edits at a time. Ends in 'N passed, M failed', which counts wrong machines.
 # Usage: tests/knots.sh [LABEL ..]; KEEP=DIR keeps the logs there; EDITS=DIR has other edits (make guards: tests/knots/guards)
 set -u
 cd "$(dirname "$0")/.." || exit 1
@@ -56,40 +58,53 @@ apply() {
   [ "$pairs" -gt 0 ] || { echo "it changes nothing"; return 1; }
 }
 
-# try EDIT: says 'refused' where the edit is refused as it must be, else what is wrong
+# try EDIT: proves core with the edit and checks machine over it; says what is wrong, unless machine is refused
 try() {
-  local edit=$1 copy names name bad=''
-  copy=$work/$(basename "$edit" .edit)
+  local copy
+  copy=$work/$(basename "$1" .edit)
   cp -r "$work/base" "$copy"
-  names=$(sed -n 's/^# claims: //p' "$edit")
-  [ -n "$names" ] || { echo "it names no claims"; return; }
-  apply "$edit" "$copy" || return
+  apply "$1" "$copy" || return
   (cd "$copy" && RT_CUT=0 RT_JOBS=1 rt check core) >"$copy/core.log" 2>&1 || { echo "core is refused"; grep -m 3 ': error' "$copy/core.log"; return; }
   if (cd "$copy" && RT_CUT=0 RT_JOBS=1 rt check machine) >"$copy/machine.log" 2>&1; then echo "machine is still proved"; return; fi
-  grep -q '^logic=not-proved' "$copy/machine.log" || { echo "machine did not reach the prover"; head -n 5 "$copy/machine.log"; return; }
-  for name in $names; do
-    grep -F "/machine/proofs/$name.antt:" "$copy/machine.log" | grep ': error: ' |
-      grep -qvE ' was not admitted | that can be named from here| is not in scope| has no field ' || bad="$bad $name"
-  done
-  if [ -z "$bad" ]; then echo refused; else echo "not refused by itself in machine/proofs:$bad"; fi
+  grep -q '^logic=not-proved' "$copy/machine.log" || { echo "machine did not reach the prover"; head -n 5 "$copy/machine.log"; }
+}
+
+# refused CLAIM LOG: where the claim is refused by itself at a fact
+refused() {
+  local name=''
+  case $1 in *:*) name="\`${1#*:}\`: " ;; esac
+  grep -F "/machine/proofs/${1%%:*}.antt:" "$2" | grep -F ": error: $name" |
+    grep -m 1 -vE ' was not admitted | that can be named from here| is not in scope| has no field ' | sed 's/^.*\/crates\///; s/: error: .*//'
 }
 
 passed=0
 failed=0
-# flush EDIT ..: waits for those that are being tried, and counts them
+# flush EDIT ..: waits for those that are being tried, and judges each wrong machine in them
 flush() {
-  local edit label name
+  local edit label knots claims i wrong claim name
   wait
   for edit in "$@"; do
     label=$(basename "$edit" .edit)
-    if [ "$(cat "$work/$label.out")" = refused ]; then
-      passed=$((passed + 1))
-      echo "$label: refused by the claims ($(grep -m 1 -o 'crates/machine/[^ ]*: error' "$work/$label/machine.log" | sed 's/: error$//'))"
-    else
-      failed=$((failed + 1))
-      echo "$label: FAILED"
-      cat "$work/$label.out"
-    fi
+    mapfile -t knots < <(sed -n 's/^# knot: \([^:]*\): .*/\1/p' "$edit")
+    mapfile -t claims < <(sed -n 's/^# claims: *\([^ ]\)/\1/p' "$edit")
+    [ "${#knots[@]}" -gt 0 ] || knots=("$label")
+    for i in "${!knots[@]}"; do
+      wrong=$(cat "$work/$label.out")
+      [ "${#claims[@]}" -eq "${#knots[@]}" ] || wrong="it has not a line of claims for each wrong machine"
+      [ -z "$(tr ' ' '\n' <<<"${claims[*]}" | sort | uniq -d)" ] || wrong="it names a claim twice"
+      if [ -z "$wrong" ]; then
+        for claim in ${claims[i]}; do [ -n "$(refused "$claim" "$work/$label/machine.log")" ] || wrong="$wrong $claim"; done
+        [ -z "$wrong" ] || wrong="not refused by itself in machine/proofs:$wrong"
+      fi
+      if [ -z "$wrong" ]; then
+        passed=$((passed + 1))
+        echo "${knots[i]}: refused by the claims (first: $(refused "${claims[i]%% *}" "$work/$label/machine.log"))"
+      else
+        failed=$((failed + 1))
+        echo "${knots[i]}: FAILED"
+        echo "$wrong"
+      fi
+    done
     for name in core machine; do
       if [ -n "${KEEP:-}" ] && [ -f "$work/$label/$name.log" ]; then cp "$work/$label/$name.log" "$KEEP/$label.$name.log"; fi
     done
