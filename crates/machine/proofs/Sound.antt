@@ -5,4 +5,3 @@ mod OneCore
 mod Commit
 pub mod Keeps
 pub mod Single
-mod StandingTable

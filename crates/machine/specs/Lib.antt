@@ -10,4 +10,3 @@ pub mod Words
 pub mod Rounds
 pub mod Serial
 pub mod Claims
-pub mod Examples

@@ -1,0 +1,2 @@
+-- A record that breaks each standing rule alone; no proof here cites it. Assumes nothing.
+mod StandingTable

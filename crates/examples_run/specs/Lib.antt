@@ -1,0 +1,2 @@
+-- The examples of document 01 by the rule that the contracts of `machine` cite; no contract here cites them. Assumes nothing.
+pub mod Examples
