@@ -1,11 +1,11 @@
 -- What is known of a number's spelling: its digits one by one, what they stand for, and that no zero leads them.
 -- Assumes nothing.
-use mathlib.Core.Path.{_≡_, refl, sym, _∙_}
+use mathlib.Core.Path.{_≡_, refl, sym, ap, _∙_}
 use mathlib.Core.Logic.{dite}
 use mathlib.Core.Bool.{true}
 use mathlib.Core.List.{List, [], _∷_, _++_}
 use Prim.Native.Nat.{ℕ, zero, suc, _+_, _-_, _*_, _/_, _%_, _^_, _≤_, _<_}
-use native.Mathlib.Nat.{pow-suc, div-lt-iff-lt-mul, div-add-mod'}
+use native.Mathlib.Nat.{pow-suc, one-le-pow, div-lt-iff-lt-mul, div-add-mod'}
 use native.Mathlib.Decide.{decLt}
 use native.Mathlib.Omega.{arith}
 use lib.Dec.{lit<}
@@ -50,6 +50,14 @@ spelling-more n m h = in-more 9 n m ∙ rw (wider 8 (n / 10) (tenth 9 n h))
 
 pub spelling-longer : (n : ℕ) → 10 ≤ n → n < 10 ^ 10 → length (spelling n) ≡ length (spelling (n / 10)) + 1
 spelling-longer n m h = rw (spelling-more n m h, length-append)
+
+-- a number of d digits more than one
+pub spelling-places : (d n : ℕ) → 10 ^ d ≤ n → n < 10 ^ suc d → n < 10 ^ 10 → length (spelling n) ≡ suc d
+spelling-places zero n low high h = ap length (spelling-one n high)
+spelling-places (suc d) n low high h =
+    let some = one-le-pow d 10 (lit< tt) in
+    let least : 10 ^ d * 10 ≤ n = rw pow-suc at low in
+    omega (arith, spelling-longer n (omega arith) h, spelling-places d (n / 10) (omega arith) (tenth (suc d) n high) (omega arith))
 
 -- ---- every byte is a digit
 

@@ -91,13 +91,18 @@ pub fn put(n: u32, scratch: &mut [u8]) -> usize
 fn places(n: u32) -> usize
     ensures { λ r. ⌜ r ≡ length (spelling n) ⌝ }
 {
-    let mut k = 1;
-    let mut rest = n;
-    while 10 <= rest {
-        rest /= 10;
-        k += 1;
+    match n {
+        0..=9 => 1,
+        10..=99 => 2,
+        100..=999 => 3,
+        1_000..=9_999 => 4,
+        10_000..=99_999 => 5,
+        100_000..=999_999 => 6,
+        1_000_000..=9_999_999 => 7,
+        10_000_000..=99_999_999 => 8,
+        100_000_000..=999_999_999 => 9,
+        _ => 10,
     }
-    k
 }
 
 // Puts n's k digits over the first bytes of the scratch, from the last to the first.
@@ -107,10 +112,11 @@ fn fill(n: u32, k: usize, scratch: &mut [u8])
 {
     let mut rest = n;
     let mut i = k - 1;
-    while 10 <= rest {
-        scratch[i] = b'0' + (rest % 10) as u8;
-        rest /= 10;
+    while 0 < i {
+        let tenth = rest / 10;
+        scratch[i] = b'0' + (rest - 10 * tenth) as u8;
+        rest = tenth;
         i -= 1;
     }
-    scratch[i] = b'0' + rest as u8;
+    scratch[0] = b'0' + rest as u8;
 }

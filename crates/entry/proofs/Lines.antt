@@ -1,101 +1,130 @@
 -- How many lines a script has, and how many bytes are enough for so many. Assumes nothing.
-use mathlib.Core.Path.{_≡_, refl, sym, ap, subst, _∙_}
-use mathlib.Core.Bool.{Bool, true, false}
-use mathlib.Core.List.{List, [], _∷_}
+use mathlib.Core.Path.{_≡_, refl, sym, ap, _∙_}
+use mathlib.Core.Bool.{Bool, true, false, cond}
+use mathlib.Core.List.{List, [], _∷_, _++_}
 use Prim.Native.Nat.{ℕ, suc, _+_, _-_, _*_, _/_, _≤_, _<_}
+use native.Mathlib.Numerals.{add-one}
 use native.Mathlib.Omega.{arith}
 use lib.Dec.{eqb, leb}
-use lib.ListN.{length, drop, getD, length-drop}
-use lib.Seq.{drop-cons}
-use borrow.Author.Tests.{ne-eqb, eqb-true, eqb-false, le-leb, lt-leb, leb-true, leb-false}
-use Rattle.script.specs.Pieces.{lines, free}
-use Rattle.script.proofs.Laws.{lines-empty, lines-newline, lines-begun, lines-last}
+use lib.ListN.{length, take, drop, getD, length-take, length-drop, length-append, take-append-drop, drop-of-length-le}
+use lib.Seq.{drop-cons, drop-drop}
+use borrow.Author.Tests.{eq-eqb, ne-eqb, le-leb, lt-leb, leb-true, leb-false}
+use Rattle.script.specs.Pieces.{onto, pieces, ended, lines}
+use Rattle.script.proofs.Laws.{some-piece}
 use Rattle.runner.specs.Listing.{listing}
 use Rattle.runner.proofs.Bounds.{enough}
 
--- ---- how many lines a byte in front makes
+-- ---- a byte in front makes one piece more, and one line more, where it is a newline
 
-newline-long : (bs : List ℕ) → length (lines (10 ∷ bs)) ≡ suc (length (lines bs))
-newline-long bs = ap length (lines-newline [] bs (unfold free in refl))
+abbrev newline : ℕ → ℕ
+newline b = cond (eqb b 10) 1 0
 
-byte-free : (b : ℕ) → (b ≡ 10 → ⊥) → free 10 (b ∷ []) ≡ true
-unfolding free
-byte-free b ne = rw (ne-eqb b 10 ne) refl
+is-newline : (b : ℕ) → b ≡ 10 → newline b ≡ 1
+is-newline b e = rw (eq-eqb b 10 e) refl
 
--- a byte that is no newline joins the line that follows
-byte-joins : (b x : ℕ) (xs : List ℕ) → (b ≡ 10 → ⊥) → length (lines (b ∷ x ∷ xs)) ≡ length (lines (x ∷ xs))
-byte-joins b x xs ne = go (eqb x 10) refl
+no-newline : (b : ℕ) → (b ≡ 10 → ⊥) → newline b ≡ 0
+no-newline b ne = rw (ne-eqb b 10 ne) refl
+
+pieces-none : length (pieces 10 []) ≡ 1
+pieces-none = unfold pieces in refl
+
+pieces-one-more : (b : ℕ) (bs : List ℕ) → length (pieces 10 (b ∷ bs)) ≡ newline b + length (pieces 10 bs)
+unfolding pieces onto
+pieces-one-more b bs = go (eqb b 10) _ _ (some-piece 10 bs)
   where
-    both-free : (x ≡ 10 → ⊥) → free 10 (b ∷ x ∷ []) ≡ true
-    both-free nx = unfold free in rw (ne-eqb b 10 ne, ne-eqb x 10 nx) refl
+    go : (t : Bool) (p : List ℕ) (ps : List (List ℕ)) → pieces 10 bs ≡ p ∷ ps
+        → length (cond t ([] ∷ pieces 10 bs) (onto b (pieces 10 bs))) ≡ cond t 1 0 + length (pieces 10 bs)
+    go true p ps e = omega arith
+    go false p ps e = rw e (omega arith)
 
-    go : (t : Bool) → eqb x 10 ≡ t → length (lines (b ∷ x ∷ xs)) ≡ length (lines (x ∷ xs))
-    go true e =
-        subst (λ (y : ℕ). length (lines (b ∷ y ∷ xs)) ≡ length (lines (y ∷ xs))) (sym (eqb-true x 10 e))
-        (ap length (lines-newline (b ∷ []) xs (byte-free b ne)) ∙ sym (newline-long xs))
-    go false e =
-        ap length (lines-begun b (x ∷ []) xs (both-free (eqb-false x 10 e)))
-        ∙ sym (ap length (lines-begun x [] xs (byte-free x (eqb-false x 10 e))))
+lines-one-more : (b x : ℕ) (bs : List ℕ) → length (lines (b ∷ x ∷ bs)) ≡ newline b + length (lines (x ∷ bs))
+unfolding lines ended pieces onto
+lines-one-more b x bs = rw (some-piece 10 bs) (go (eqb b 10) (eqb x 10) _ _)
+  where
+    go : (t u : Bool) (p : List ℕ) (ps : List (List ℕ))
+        → length (ended (cond t ([] ∷ cond u ([] ∷ p ∷ ps) (onto x (p ∷ ps))) (onto b (cond u ([] ∷ p ∷ ps) (onto x (p ∷ ps))))))
+        ≡ cond t 1 0 + length (ended (cond u ([] ∷ p ∷ ps) (onto x (p ∷ ps))))
+    go true true p ps = omega arith
+    go true false p ps = omega arith
+    go false true p ps = omega arith
+    go false false p [] = omega arith
+    go false false p (q ∷ ps) = omega arith
 
 -- one byte, or none, is at most one line
-short : (bs : List ℕ) → length bs ≤ 1 → length (lines bs) ≤ 1
-short [] h = omega (arith, ap length lines-empty)
-short (x ∷ []) h = go (eqb x 10) refl
+pub short : (bs : List ℕ) → length bs ≤ 1 → length (lines bs) ≤ 1
+unfolding lines ended pieces onto
+short [] h = omega arith
+short (x ∷ []) h = go (eqb x 10)
   where
-    go : (t : Bool) → eqb x 10 ≡ t → length (lines (x ∷ [])) ≤ 1
-    go true e =
-        subst (λ (y : ℕ). length (lines (y ∷ [])) ≤ 1) (sym (eqb-true x 10 e)) (omega (arith, newline-long [], ap length lines-empty))
-    go false e = omega (arith, ap length (lines-last x [] (byte-free x (eqb-false x 10 e))))
+    go : (t : Bool) → length (ended (cond t ([] ∷ [] ∷ []) (onto x ([] ∷ [])))) ≤ 1
+    go true = omega arith
+    go false = omega arith
 short (x ∷ y ∷ bs) h = absurd (omega (arith, h))
 
--- ---- before the byte at i - 1 is looked at: n lines begin up to there, and the rest has the others
+-- ---- the newlines of a block: n stand before the byte at i, and the rest has the others
+
+abbrev pub Found : List ℕ → ℕ → ℕ → Type 0
+Found block n i = n + length (pieces 10 (drop i block)) ≡ length (pieces 10 block)
+
+module _ (block : List ℕ) (n i : ℕ) (inv : Found block n i) where
+  pub all-found : length block ≤ i → length (pieces 10 block) ≡ n + 1
+  all-found h = omega (arith, inv, ap (λ (bs : List ℕ). length (pieces 10 bs)) (drop-of-length-le block h), pieces-none)
+
+  module _ (h : i < length block) where
+    abbrev b : ℕ
+    b = getD block i 0
+
+    next : length (pieces 10 (drop i block)) ≡ newline b + length (pieces 10 (drop (i + 1) block))
+    next = rw (add-one, drop-cons block i 0) (pieces-one-more b (drop (suc i) block))
+
+    pub newline-found : b ≡ 10 → Found block (n + 1) (i + 1)
+    newline-found e = omega (arith, inv, next, is-newline b e)
+
+    pub byte-passed : (b ≡ 10 → ⊥) → Found block n (i + 1)
+    byte-passed ne = omega (arith, inv, next, no-newline b ne)
+
+-- ---- the lines of a script: n begin up to the byte at i, and the rest has the others
+
+-- a block in front of other bytes makes as many lines more as it has newlines
+in-front : (block rest : List ℕ) → 1 ≤ length rest → length (lines (block ++ rest)) + 1 ≡ length (pieces 10 block) + length (lines rest)
+in-front [] rest some = omega (arith, pieces-none)
+in-front (b ∷ bs) rest some =
+    omega (arith, in-front bs rest some, pieces-one-more b bs, more b (bs ++ rest) (omega (arith, some, length-append bs rest)))
+  where
+    more : (b : ℕ) (after : List ℕ) → 1 ≤ length after → length (lines (b ∷ after)) ≡ newline b + length (lines after)
+    more b [] h = absurd (omega (arith, h))
+    more b (x ∷ xs) h = lines-one-more b x xs
 
 abbrev pub Counted : List ℕ → ℕ → ℕ → Type 0
-Counted script n i = n + length (lines (drop (i - 1) script)) ≡ suc (length (lines script))
+Counted script n i = (1 ≤ n) × (n ≤ suc i) × (n + length (lines (drop i script)) ≡ suc (length (lines script)))
 
-module _ (script : List ℕ) (n i : ℕ) (inv : Counted script n i) where
-  pub all-counted : length script ≤ i → length (lines script) ≤ n
-  all-counted h =
-      omega (arith, inv, short (drop (i - 1) script) (omega (arith, h, length-drop (i - 1) script)))
+pub block-counted : (script : List ℕ) (n i end r : ℕ) → Counted script n i → i ≤ end → end < length script
+    → (length (pieces 10 (take (end - i) (drop i script))) ≡ r + 1) × (r ≤ length (take (end - i) (drop i script)))
+    → Counted script (n + r) end
+block-counted script n i end r inv ahead inside found = (
+  omega (arith, inv .0),
+  omega (arith, inv .1, ahead, found .1, length-take (end - i) (drop i script)),
+  omega (
+    arith,
+    inv .2,
+    found .0,
+    ap (λ (bs : List ℕ). length (lines bs)) split,
+    in-front (take (end - i) (drop i script)) (drop end script) (omega (arith, inside, length-drop end script)),
+  ),
+)
+  where
+    there : i + (end - i) ≡ end
+    there = omega (arith, ahead)
 
-  module _ (some : 1 ≤ i) (h : i < length script) where
-    abbrev b : ℕ
-    b = getD script (i - 1) 0
+    split : drop i script ≡ take (end - i) (drop i script) ++ drop end script
+    split =
+        sym (take-append-drop (end - i) (drop i script))
+        ∙ ap (λ (bs : List ℕ). take (end - i) (drop i script) ++ bs)
+        (drop-drop (end - i) i script ∙ ap (λ (k : ℕ). drop k script) there)
 
-    here : suc (i - 1) ≡ i
-    here = omega (arith, some)
-
-    rest : drop i script ≡ getD script i 0 ∷ drop (suc i) script
-    rest = drop-cons script i 0 h
-
-    next : drop (i - 1) script ≡ b ∷ drop i script
-    next = drop-cons script (i - 1) 0 (omega (arith, some, h)) ∙ ap (λ (k : ℕ). b ∷ drop k script) here
-
-    back : drop (i + 1 - 1) script ≡ drop i script
-    back = ap (λ (k : ℕ). drop k script) one-less
-      where
-        one-less : i + 1 - 1 ≡ i
-        one-less = omega arith
-
-    pub newline-counted : b ≡ 10 → Counted script (n + 1) (i + 1)
-    newline-counted e =
-        omega (
-          arith,
-          inv,
-          ap (λ (bs : List ℕ). length (lines bs)) (next ∙ ap (λ (x : ℕ). x ∷ drop i script) e),
-          newline-long (drop i script),
-          ap (λ (bs : List ℕ). length (lines bs)) back,
-        )
-
-    pub byte-passed : (b ≡ 10 → ⊥) → Counted script n (i + 1)
-    byte-passed ne =
-        omega (
-          arith,
-          inv,
-          ap (λ (bs : List ℕ). length (lines bs)) (next ∙ ap (λ (bs : List ℕ). b ∷ bs) rest),
-          byte-joins b (getD script i 0) (drop (suc i) script) ne,
-          ap (λ (bs : List ℕ). length (lines bs)) (back ∙ rest),
-        )
+-- at the last byte all are counted
+pub all-counted : (script : List ℕ) (n i : ℕ) → Counted script n i → length script ≤ suc i → length (lines script) ≤ n
+all-counted script n i inv h = omega (arith, inv .2, short (drop i script) (omega (arith, h, length-drop i script)))
 
 -- ---- the test that so many bytes are enough
 

@@ -7,13 +7,16 @@ ghost use mathlib.Core.List.{_++_};
 ghost use Prim.Native.Nat.{_+_, _*_, _≤_, _<_};
 ghost use lib.Dec.{leb};
 ghost use lib.ListN.{length, drop};
-ghost use Rattle.script.specs.Pieces.{lines};
+ghost use Rattle.script.specs.Pieces.{pieces, lines};
 ghost use Rattle.runner.specs.Listing.{listing};
 ghost use Rattle.runner.specs.Runs.{EveryScript};
 ghost use Rattle.entry.specs.Fitting.{wholeOrNone, outputAfter};
 
 // How many bytes of the script are run at a time. Each may end a line, which takes up to 32 bytes of text.
 const CHUNK: usize = 512;
+
+// How many bytes of the script are counted at a time: a multiple of 32, for the compiler, whose newlines a byte can count.
+const BLOCK: usize = 224;
 
 // Lists the script over the first bytes of the output and answers how many bytes that is. A listing that is longer than the output is
 // refused (12): the answer is 0 and the output is untouched. The claim about whole runs holds of every script: of the calls after each
@@ -41,14 +44,31 @@ pub extern "C" fn cards_run(script: &[u8], output: &mut [u8]) -> usize
 fn lines_of(script: &[u8]) -> usize
     ensures { λ r. ⌜ (1 ≤ r) × (length (lines (now (script .entry))) ≤ r) ⌝ }
 {
+    if script.len() == 0 {
+        return 1;
+    }
+    let last = script.len() - 1;
     let mut n = 1;
-    let mut i = 1;
-    while i < script.len() {
-        let b = script[i - 1];
-        i += 1;
-        if b == b'\n' {
+    let mut i = 0;
+    while BLOCK <= last - i {
+        n += newlines(&script[i..i + BLOCK]) as usize;
+        i += BLOCK;
+    }
+    n + newlines(&script[i..last]) as usize
+}
+
+// How many newlines a block has: one fewer than the pieces between them. Counted in a byte, so that the compiler compares 16 at a time.
+fn newlines(block: &[u8]) -> u8
+    requires { ⌜ length (now block) < 256 ⌝ }
+    ensures { λ r. ⌜ (length (pieces 10 (now (block .entry))) ≡ r + 1) × (r ≤ length (now (block .entry))) ⌝ }
+{
+    let mut n: u8 = 0;
+    let mut i = 0;
+    while i < block.len() {
+        if block[i] == b'\n' {
             n += 1;
         }
+        i += 1;
     }
     n
 }

@@ -1,38 +1,53 @@
--- `decimal::places` meets its contract. The loop's invariant: the digits counted past and those of the rest are n's. The measure is the
--- rest.
+-- `decimal::places` meets its contract: each arm's numbers have so many digits (`spelling-places`).
 -- Assumes nothing.
-use mathlib.Core.Path.{_≡_, ap}
-use Prim.Native.Nat.{_+_, _≤_}
+use mathlib.Core.Path.{sym, ap}
 use native.Mathlib.Omega.{arith}
 use lib.ListN.{length}
-use Rattle.decimal.specs.Spelling.{spelling}
-use Rattle.decimal.proofs.Spelling.{spelling-one, spelling-longer}
-use Rattle.decimal.proofs.Laws.{spelling-length}
+use Rattle.decimal.proofs.Spelling.{spelling-one, spelling-places}
 use Rattle.decimal.proofs.places.Statement.{statement}
 use Rattle.decimal.proofs.places.Tie as tie
 
-abbrev Inv-loop : tie.InvT-loop
-Inv-loop n k₀ rest₀ k rest = (k + length (spelling rest) ≡ length (spelling n) + 1) × (rest ≤ n)
+returns : tie.Need-returns
+returns c = sym (ap length (spelling-one _ (omega arith)))
 
-abbrev μ-loop : tie.MeasureT-loop
-μ-loop n k₀ rest₀ k rest = rest
+returns-2 : tie.Need-returns-2
+returns-2 c = sym (spelling-places 1 _ (omega arith) (omega arith) (omega arith))
 
-loop-holds : tie.Need-loop-holds Inv-loop μ-loop
-loop-holds c = omega arith
+returns-3 : tie.Need-returns-3
+returns-3 c = sym (spelling-places 2 _ (omega arith) (omega arith) (omega arith))
 
-add-k : tie.Need-add-k Inv-loop μ-loop
-add-k c = omega (arith, spelling-length (c .before .loop .rest), spelling-length (c .before .before .args .n))
+returns-4 : tie.Need-returns-4
+returns-4 c = sym (spelling-places 3 _ (omega arith) (omega arith) (omega arith))
 
-loop-less : tie.Need-loop-less Inv-loop μ-loop
-loop-less c = omega arith
+returns-5 : tie.Need-returns-5
+returns-5 c = sym (spelling-places 4 _ (omega arith) (omega arith) (omega arith))
 
-loop-again : tie.Need-loop-again Inv-loop μ-loop
-loop-again c =
-    omega (arith, spelling-longer (c .before .loop .rest) (omega arith) (omega arith))
+returns-6 : tie.Need-returns-6
+returns-6 c = sym (spelling-places 5 _ (omega arith) (omega arith) (omega arith))
 
-returns : tie.Need-returns Inv-loop μ-loop
-returns c =
-    omega (arith, ap length (spelling-one (c .before .loop .rest) (omega arith)))
+returns-7 : tie.Need-returns-7
+returns-7 c = sym (spelling-places 6 _ (omega arith) (omega arith) (omega arith))
+
+returns-8 : tie.Need-returns-8
+returns-8 c = sym (spelling-places 7 _ (omega arith) (omega arith) (omega arith))
+
+returns-9 : tie.Need-returns-9
+returns-9 c = sym (spelling-places 8 _ (omega arith) (omega arith) (omega arith))
+
+returns-10 : tie.Need-returns-10
+returns-10 c = sym (spelling-places 9 _ (omega arith) (omega arith) (omega arith))
 
 pub places-spec : {M : Type 1} → statement M
-places-spec = tie.close (tie.spec Inv-loop μ-loop loop-holds add-k loop-less loop-again returns)
+places-spec =
+    tie.close
+    (tie.spec
+    returns
+    returns-2
+    returns-3
+    returns-4
+    returns-5
+    returns-6
+    returns-7
+    returns-8
+    returns-9
+    returns-10)

@@ -2,53 +2,85 @@
 -- script. Assumes nothing.
 use Prim.Native.Nat.{suc, _-_, _≤_}
 use native.Mathlib.Omega.{arith}
-use lib.ListN.{length}
+use lib.ListN.{length, length-take}
 use borrow.Author.Needs.{needs}
-use Rattle.entry.proofs.Lines.{Counted, all-counted, newline-counted, byte-passed}
+use Rattle.entry.proofs.Lines.{Counted, block-counted, all-counted, short}
 use Rattle.entry.proofs.lines_of.Statement.{statement}
 use Rattle.entry.proofs.lines_of.Tie as tie
 
 abbrev Inv-loop : tie.InvT-loop
-Inv-loop script n₀ i₀ n i = (1 ≤ i) × (1 ≤ n) × (n ≤ i) × (i ≤ suc (length script)) × Counted script n i
+Inv-loop script last n₀ i₀ n i = (i ≤ last) × Counted script n i
 
 abbrev μ-loop : tie.MeasureT-loop
-μ-loop script n₀ i₀ n i = length script - i
+μ-loop script last n₀ i₀ n i = last - i
+
+returns : tie.Need-returns Inv-loop μ-loop
+returns c = (omega arith, short _ (omega arith))
+
+sub-last : tie.Need-sub-last Inv-loop μ-loop
+sub-last c = search needs
 
 loop-holds : tie.Need-loop-holds Inv-loop μ-loop
-loop-holds c = (omega arith, omega arith, omega arith, omega arith, omega arith)
+loop-holds c = (omega arith, (omega arith, omega arith, omega arith))
 
-sub-b : tie.Need-sub-b Inv-loop μ-loop
-sub-b c = search needs
+sub-loop : tie.Need-sub-loop Inv-loop μ-loop
+sub-loop c = search needs
 
-shared-slice-read-b : tie.Need-shared-slice-read-b Inv-loop μ-loop
-shared-slice-read-b c = search needs
+add-newlines : tie.Need-add-newlines Inv-loop μ-loop
+add-newlines c = search needs
+
+sub-newlines : tie.Need-sub-newlines Inv-loop μ-loop
+sub-newlines c = search needs
+
+part-newlines-start : tie.Need-part-newlines-start Inv-loop μ-loop
+part-newlines-start c = search needs
+
+part-newlines-end : tie.Need-part-newlines-end Inv-loop μ-loop
+part-newlines-end c = search needs
+
+newlines-requires : tie.Need-newlines-requires Inv-loop μ-loop
+newlines-requires c κs = simp length-take (omega arith)
+
+cast-n : tie.Need-cast-n Inv-loop μ-loop
+cast-n c = search needs
+
+add-n : tie.Need-add-n Inv-loop μ-loop
+add-n c = omega (arith, simp length-take at (c .newlines .ensures .1))
 
 add-i : tie.Need-add-i Inv-loop μ-loop
 add-i c = search needs
-
-add-n : tie.Need-add-n Inv-loop μ-loop
-add-n c = search needs
 
 loop-less : tie.Need-loop-less Inv-loop μ-loop
 loop-less c = search needs
 
 loop-again : tie.Need-loop-again Inv-loop μ-loop
 loop-again c =
-    let test = c .before .before .loop-test .taken in
     let inv = c .before .before .before .loop .inv in
-    (omega arith, omega arith, omega (arith, inv .2), omega (arith, test), newline-counted _ _ _ (inv .4) (inv .0) test (c .if1 .taken))
+    (omega arith, block-counted _ _ _ _ _ (inv .1) (omega arith) (omega arith) (c .newlines .ensures))
 
-loop-less-2 : tie.Need-loop-less-2 Inv-loop μ-loop
-loop-less-2 c = search needs
+sub-newlines-2 : tie.Need-sub-newlines-2 Inv-loop μ-loop
+sub-newlines-2 c = search needs
 
-loop-again-2 : tie.Need-loop-again-2 Inv-loop μ-loop
-loop-again-2 c =
-    let test = c .before .before .loop-test .taken in
+part-newlines-start-2 : tie.Need-part-newlines-start-2 Inv-loop μ-loop
+part-newlines-start-2 c = search needs
+
+part-newlines-end-2 : tie.Need-part-newlines-end-2 Inv-loop μ-loop
+part-newlines-end-2 c = search needs
+
+newlines-requires-2 : tie.Need-newlines-requires-2 Inv-loop μ-loop
+newlines-requires-2 c κs = simp length-take (omega arith)
+
+cast-result : tie.Need-cast-result Inv-loop μ-loop
+cast-result c = search needs
+
+add-result : tie.Need-add-result Inv-loop μ-loop
+add-result c = omega (arith, simp length-take at (c .newlines2 .ensures .1))
+
+returns-2 : tie.Need-returns-2 Inv-loop μ-loop
+returns-2 c =
     let inv = c .before .before .before .loop .inv in
-    (omega arith, inv .1, omega (arith, inv .2), omega (arith, test), byte-passed _ _ _ (inv .4) (inv .0) test (c .if1 .left))
-
-returns : tie.Need-returns Inv-loop μ-loop
-returns c = let inv = c .before .loop .inv in (inv .1, all-counted _ _ _ (inv .4) (c .loop-test .left))
+    let counted = block-counted _ _ _ _ _ (inv .1) (omega arith) (omega arith) (c .newlines2 .ensures) in
+    (counted .0, all-counted _ _ _ counted (omega arith))
 
 pub lines-of-spec : {M : Type 1} → statement M
 lines-of-spec =
@@ -56,13 +88,24 @@ lines-of-spec =
     (tie.spec
     Inv-loop
     μ-loop
+    returns
+    sub-last
     loop-holds
-    sub-b
-    shared-slice-read-b
-    add-i
+    sub-loop
+    add-newlines
+    sub-newlines
+    part-newlines-start
+    part-newlines-end
+    newlines-requires
+    cast-n
     add-n
+    add-i
     loop-less
     loop-again
-    loop-less-2
-    loop-again-2
-    returns)
+    sub-newlines-2
+    part-newlines-start-2
+    part-newlines-end-2
+    newlines-requires-2
+    cast-result
+    add-result
+    returns-2)
