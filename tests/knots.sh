@@ -4,7 +4,7 @@
 # '# claims: NAME NAME ..' names files of crates/machine/proofs, or declarations in them (FILE:declaration), and each must be refused by
 # itself, at a fact: not because something beneath it is, nor at a name that it lacks. An edit may hold several wrong machines, none of
 # which is refused where another must be: '# knot: NAME: words' and a line of claims for each, and no claim twice; without '# knot:' it
-# is one, named as its file. Two edits at a time. Ends in 'N passed, M failed', which counts wrong machines.
+# is one, named as its file. Four edits at a time. Ends in 'N passed, M failed', which counts wrong machines.
 # Usage: tests/knots.sh [LABEL ..]; KEEP=DIR keeps the logs there; EDITS=DIR has other edits (make guards: tests/knots/guards)
 set -u
 cd "$(dirname "$0")/.." || exit 1
@@ -120,7 +120,7 @@ for edit in "${EDITS:-tests/knots}"/*.edit; do
   try "$edit" >"$work/$(basename "$edit" .edit).out" 2>&1 &
   batch+=("$edit")
   tried=$((tried + 1))
-  if [ "${#batch[@]}" -eq 2 ]; then
+  if [ "${#batch[@]}" -eq 4 ]; then
     flush "${batch[@]}"
     batch=()
   fi

@@ -31,7 +31,8 @@ counted() {
   if "$@"; then echo "1 passed, 0 failed"; else echo "0 passed, 1 failed"; return 1; fi
 }
 
-part "proofs, must-fail edits and programs (rt ci)" rt ci
+# rt waits for a whole batch before it starts the next; with four in a batch no core is idle for long
+part "proofs, must-fail edits and programs (rt ci)" env RT_JOBS="${RT_JOBS:-4}" rt ci
 part "edits of several functions" tests/edits.sh
 part "edits across crates" tests/knots.sh
 part "layout (rt fmt --check)" counted rt fmt --check
