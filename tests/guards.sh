@@ -22,7 +22,7 @@ if [ "$count" -eq 0 ]; then
   echo "0 passed, 1 failed"
   exit 1
 fi
-(cd "$copy" && rt must-fail "${names[@]}") 2>&1 | tee "$copy/log"
+(cd "$copy" && RT_JOBS="${RT_JOBS:-4}" rt must-fail "${names[@]}") 2>&1 | tee "$copy/log"
 status=${PIPESTATUS[0]}
 passed=$(grep -cE '(^|[ :])must-fail [^ ]*: refused, as it must be' "$copy/log")
 failed=$((count - passed))
