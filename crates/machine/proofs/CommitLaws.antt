@@ -6,7 +6,7 @@ use Prim.Native.Nat.{ℕ, zero, suc, _+_, _*_, _≤_, _<_}
 use native.Mathlib.Nat.{mul-le-mul-right, suc-mul}
 use native.Mathlib.Omega.{arith}
 use lib.Dec.{ltb}
-use lib.ListN.{length, getD, set, drop}
+use lib.ListN.{length, getD, set}
 use lib.Seq.{set-getD}
 use borrow.Author.Tests.{ltb-true, ltb-false, eq-eqb}
 use Rattle.objset.specs.Objset.{has, some}
@@ -27,11 +27,11 @@ use Rattle.machine.specs.Sound.{sound}
 use Rattle.machine.specs.Answers.{kind, named}
 use Rattle.machine.specs.Inside.{Fine}
 use Rattle.machine.specs.Rule.{World, Result, withMachine, unlessLent, wrongTables, told, contender, blocked, changed, moved, through, waiting, commitRefusal, commit}
-use Rattle.machine.specs.OneCore.{found, firstFrom, firstHolding, settled}
+use Rattle.machine.specs.OneCore.{found, firstHolding, settled}
 use Rattle.machine.proofs.Entries.{put-each, changed-at, changed-long}
 use Rattle.machine.proofs.Facts.{stands, core-place, one-open}
 use Rattle.machine.proofs.CallLaws.{is-sound, a-core, no-core, refused-lent, accepted-lent}
-use Rattle.machine.proofs.CoreLists.{idle-holding, holding-holds, holding-none, strikes-none, changed-none, strikes-cleared}
+use Rattle.machine.proofs.CoreLists.{holding-holds, holding-none, strikes-none, changed-none, strikes-cleared}
 use Rattle.machine.proofs.Front.{Stands, stands-next, stands-stored, stands-kept, stands-past, stands-all}
 
 -- ---- the loops over the objects of the write set
@@ -92,10 +92,6 @@ nobody-ahead m s c h = none-some 16 (contender m c) (λ e l. go e l (ltb e (m .c
     go : (e : ℕ) → e < 16 → (q : Bool) → ltb e (m .cores) ≡ q → contender m c e ≡ false
     go e l true p = h e (ltb-true e (m .cores) p)
     go e l false p = contender-idle m c e (stands m s .turns .lacked e l (ltb-false e (m .cores) p))
-
--- so a search may begin at the last core that the machine has
-pub lacked-holding : (m : Machine) (s : sound m ≡ true) (k : Core) → length (m .core) ≡ 16 → 16 ≡ firstFrom (drop (m .cores) (m .core)) (m .cores) k
-lacked-holding m s k long = idle-holding (m .core) (m .cores) k (λ e l p. stands m s .turns .lacked e (omega (arith, long)) p)
 
 -- ---- what a sound record tells the functions that a commit calls
 

@@ -5,8 +5,8 @@ use mathlib.Core.List.{List, [], _∷_}
 use Prim.Native.Nat.{ℕ, zero, suc, _+_, _-_, _≤_, _<_}
 use native.Mathlib.Omega.{arith}
 use lib.Dec.{eqb}
-use lib.ListN.{getD, set, length, drop, length-drop}
-use lib.Seq.{drop-cons, drop-length, getD-drop}
+use lib.ListN.{getD, set, length, drop}
+use lib.Seq.{drop-cons, drop-length}
 use borrow.Author.Tests.{eqb-true, eq-eqb, ne-eqb}
 use Rattle.objset.specs.Objset.{has, meeting}
 use Rattle.objset.proofs.Digits.{has-zero}
@@ -25,18 +25,6 @@ use Rattle.machine.proofs.Front.{Stands, stands-next, stands-stored, st
 pub none-holding : (cores : List Core) (k : Core) → length cores ≡ 16 → 16 ≡ firstFrom (drop 16 cores) 16 k
 unfolding firstFrom
 none-holding cores k long = rw (sym (ap (λ (n : ℕ). drop n cores) long) ∙ drop-length cores) refl
-
--- cores without a transaction hold nobody back
-idle-from : (cores : List Core) (i : ℕ) (k : Core) → ((e : ℕ) → e < length cores → getD cores e noCore .active ≡ false) → 16 ≡ firstFrom cores i k
-unfolding firstFrom
-idle-from [] i k idle = refl
-idle-from (x ∷ xs) i k idle = rw (idle 0 (omega arith)) (idle-from xs (suc i) k (λ e l. idle (suc e) (omega arith)))
-
-pub idle-holding : (cores : List Core) (n : ℕ) (k : Core) → ((e : ℕ) → e < length cores → n ≤ e → getD cores e noCore .active ≡ false)
-    → 16 ≡ firstFrom (drop n cores) n k
-idle-holding cores n k idle =
-    idle-from (drop n cores) n k
-    (λ e l. ap (λ (x : Core). x .active) (getD-drop n cores e noCore) ∙ idle (n + e) (omega (arith, length-drop n cores)) (omega arith))
 
 -- one core more in front, which holds it back or does not
 pub holding-here : (cores : List Core) (i : ℕ) (k : Core) → i < length cores → holdsBack (getD cores i noCore) k ≡ true

@@ -22,7 +22,7 @@ use Rattle.request.specs.declared.Asked.{Asked}
 use Rattle.request.specs.declared.Asked.the-variants as Asked
 use Rattle.request.specs.Asks.{mostLines, asks}
 use Rattle.runner.specs.Listing.{nothing}
-use Rattle.runner.specs.Kept.{held, next, begun, rest, Held, Fit, State, state, lineEnd, pastLine, after, fed}
+use Rattle.runner.specs.Kept.{held, next, begun, rest, Held, Fit, State, state, pastLine, after, fed}
 use Rattle.runner.proofs.Asking.{lists, goes, ordered, outcome}
 use Rattle.runner.proofs.LineLaws.{byte-lost, line-said, text, Leads, line-leads}
 use Rattle.runner.proofs.Acts.{Done, none-done}

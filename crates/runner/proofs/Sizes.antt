@@ -1,9 +1,8 @@
--- A record's own words of the tables, at most 64 and at most 1,024, and when it is sound. Assumes nothing.
-use mathlib.Core.Path.{_≡_, sym, ap, subst, _∙_}
+-- How many words of the pending table a record has, and when it is sound. Assumes nothing.
+use mathlib.Core.Path.{_≡_, sym, ap, subst}
 use mathlib.Core.Logic.{⊎-elim}
 use mathlib.Core.List.{List}
 use Prim.Native.Nat.{ℕ, _*_, _≤_}
-use lib.ListN.{length}
 use native.Mathlib.Omega.{arith}
 use Rattle.machine.specs.declared.Machine.{Machine}
 use Rattle.machine.specs.Inside.{Good}
@@ -17,14 +16,6 @@ module _ (m : Machine) (cs ps : List ℕ) (h : Held m cs ps) where
   own-words =
       ⊎-elim (λ b. subst (λ (x : Machine). x .cores * x .objects ≤ 1024) (sym b) (omega arith))
       (λ g. few-words (m .cores) (m .objects) (whole g .rules .few-cores) (whole g .rules .few-objects)) (h .blank-or-good)
-
-  pub committed-room : m .objects ≤ length cs
-  committed-room =
-      subst (λ (n : ℕ). m .objects ≤ n) (sym (h .committed-long))
-      (⊎-elim (λ b. subst (λ (x : Machine). x .objects ≤ 64) (sym b) (omega arith)) (λ g. whole g .rules .few-objects) (h .blank-or-good))
-
-  pub pending-room : m .cores * m .objects ≤ length ps
-  pending-room = subst (λ (n : ℕ). m .cores * m .objects ≤ n) (sym (h .pending-long)) own-words
 
   -- a record with no core is blank, any other is sound
   pub nothing-if-none : m .cores ≡ 0 → held m cs ps ≡ nothing

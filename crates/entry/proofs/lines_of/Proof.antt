@@ -1,8 +1,8 @@
 -- `entry::lines_of` meets its contract. The loop's invariant: n lines begin in what is read (`Counted`); the measure is what is left of the
 -- script. Assumes nothing.
-use Prim.Native.Nat.{suc, _-_, _≤_}
+use Prim.Native.Nat.{_-_, _≤_}
 use native.Mathlib.Omega.{arith}
-use lib.ListN.{length, length-take}
+use lib.ListN.{length-take}
 use borrow.Author.Needs.{needs}
 use Rattle.entry.proofs.Lines.{Counted, block-counted, all-counted, short}
 use Rattle.entry.proofs.lines_of.Statement.{statement}

@@ -14,12 +14,11 @@ use Rattle.core.specs.declared.Core.{Core}
 use Rattle.core.specs.declared.Answer.{Answer}
 use Rattle.core.specs.declared.calls.Settled.{Settled}
 use Rattle.machine.specs.Inside.{Good}
-use Rattle.machine.specs.declared.Machine.{Machine}
 use Rattle.machine.proofs.Sound.Keeps.{whole}
 use Rattle.machine.proofs.CoreCalls.{to-core, core-there, object-there, to-slot, to-fits}
 use Rattle.machine.proofs.CoreLists.{strikes-reached}
 use Rattle.machine.proofs.StrikeLoop.{withCores, Striking, reached, striking-place, striking-able, striking-hit, striking-missed}
-use Rattle.machine.proofs.CommitLaws.{Ready, ready, row-within}
+use Rattle.machine.proofs.CommitLaws.{Ready, ready}
 use Rattle.listing.specs.Text.{line, fitting, put}
 use Rattle.request.specs.declared.Asked.{Asked}
 use Rattle.runner.specs.Kept.{held}
