@@ -7,6 +7,7 @@ use lib.Dec.{eqb, ltb}
 use borrow.Author.Tests.{eqb-true}
 use Rattle.core.specs.Calls.{first}
 use Rattle.core.specs.declared.Answer.the-variants.{Ready, Refused}
+use Rattle.core.specs.declared.calls.Act.{Act}
 use Rattle.machine.specs.Record.{blank}
 use Rattle.machine.specs.Sound as Sound
 use Rattle.machine.specs.Rule as Rule
@@ -126,20 +127,29 @@ pub record Plain (a : Asked) : Type 0 where
 plain-refused : (n : ℕ) → Plain (Asked.Refused n true)
 plain-refused n = record { is-listed = refl; goes-on = refl; same-order = λ at. refl }
 
+plain-setup : (cores cards : ℕ) → Plain (Asked.Setup cores cards)
+plain-setup cores cards = record { is-listed = refl; goes-on = refl; same-order = λ at. refl }
+
+plain-commit : (c : ℕ) → Plain (Asked.Commit c)
+plain-commit c = record { is-listed = refl; goes-on = refl; same-order = λ at. refl }
+
+plain-one : (c : ℕ) (a : Act) → Plain (Asked.One c a)
+plain-one c a = record { is-listed = refl; goes-on = refl; same-order = λ at. refl }
+
 made-plain : (call : Call) → Plain (made call)
 unfolding made
-made-plain (Call.Setup n d) = record { is-listed = refl; goes-on = refl; same-order = λ at. refl }
-made-plain (Call.Release c number deadline) = record { is-listed = refl; goes-on = refl; same-order = λ at. refl }
-made-plain (Call.Begin c) = record { is-listed = refl; goes-on = refl; same-order = λ at. refl }
-made-plain (Call.Read c d) = record { is-listed = refl; goes-on = refl; same-order = λ at. refl }
-made-plain (Call.Write c d v) = record { is-listed = refl; goes-on = refl; same-order = λ at. refl }
-made-plain (Call.Commit c) = record { is-listed = refl; goes-on = refl; same-order = λ at. refl }
-made-plain (Call.GiveUp c) = record { is-listed = refl; goes-on = refl; same-order = λ at. refl }
-made-plain (Call.Finish c) = record { is-listed = refl; goes-on = refl; same-order = λ at. refl }
+made-plain (Call.Setup n d) = plain-setup n d
+made-plain (Call.Release c number deadline) = plain-one c _
+made-plain (Call.Begin c) = plain-one c _
+made-plain (Call.Read c d) = plain-one c _
+made-plain (Call.Write c d v) = plain-one c _
+made-plain (Call.Commit c) = plain-commit c
+made-plain (Call.GiveUp c) = plain-one c _
+made-plain (Call.Finish c) = plain-one c _
 
 unfounded-plain : (call : Call) → Plain (unfounded call) × (calls (unfounded call) ≡ false)
 unfolding unfounded
-unfounded-plain (Call.Setup n d) = (record { is-listed = refl; goes-on = refl; same-order = λ at. refl }, refl)
+unfounded-plain (Call.Setup n d) = (plain-setup n d, refl)
 unfounded-plain (Call.Release c number deadline) = (plain-refused 2, refl)
 unfounded-plain (Call.Begin c) = (plain-refused 2, refl)
 unfounded-plain (Call.Read c d) = (plain-refused 2, refl)

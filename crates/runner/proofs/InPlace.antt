@@ -39,11 +39,11 @@ front-set : (n i x : ℕ) (xs : List ℕ) → i < length (take n xs) → set xs 
 front-set n i x xs l = ap (λ (ys : List ℕ). set ys i x) (sym (take-append-drop n xs)) ∙ set-append-left (take n xs) (drop n xs) i x l
 
 -- words changed at the members of a set that are below n are changed in the first n, and only there
-changed-none : (ws : ℕ) (f : ℕ → ℕ → ℕ) (i : ℕ) (xs : List ℕ) → ((d : ℕ) → i ≤ d → d < i + length xs → has ws d ≡ true → ⊥) → changed ws f i xs ≡ xs
+changed-outside : (ws : ℕ) (f : ℕ → ℕ → ℕ) (i : ℕ) (xs : List ℕ) → ((d : ℕ) → i ≤ d → d < i + length xs → has ws d ≡ true → ⊥) → changed ws f i xs ≡ xs
 unfolding changed
-changed-none ws f i [] h = refl
-changed-none ws f i (x ∷ xs) h =
-    ap₂ _∷_ (go (has ws i) refl) (changed-none ws f (suc i) xs (λ d l m p. h d (omega (arith, l)) (omega (arith, m)) p))
+changed-outside ws f i [] h = refl
+changed-outside ws f i (x ∷ xs) h =
+    ap₂ _∷_ (go (has ws i) refl) (changed-outside ws f (suc i) xs (λ d l m p. h d (omega (arith, l)) (omega (arith, m)) p))
   where
     go : (b : Bool) → has ws i ≡ b → cond b (f i x) x ≡ x
     go true p = absurd (h i (omega arith) (omega arith) p)
@@ -52,7 +52,7 @@ changed-none ws f i (x ∷ xs) h =
 changed-front : (ws : ℕ) (f g : ℕ → ℕ → ℕ) (n i : ℕ) (xs : List ℕ) → ((d v : ℕ) → d < i + n → f d v ≡ g d v)
     → ((d : ℕ) → d < i + length xs → has ws d ≡ true → d < i + n) → changed ws f i xs ≡ changed ws g i (take n xs) ++ drop n xs
 unfolding changed
-changed-front ws f g zero i xs same within = changed-none ws f i xs (λ d l m p. omega (arith, l, within d m p))
+changed-front ws f g zero i xs same within = changed-outside ws f i xs (λ d l m p. omega (arith, l, within d m p))
 changed-front ws f g (suc n) i [] same within = refl
 changed-front ws f g (suc n) i (x ∷ xs) same within =
     ap₂ _∷_ (ap (λ (v : ℕ). cond (has ws i) v x) (same i x (omega arith)))

@@ -29,7 +29,7 @@ ghost use Rattle.runner.specs.Kept.{Fit, rest, state, fed, finished};
 // the bytes after it keep what they held. What is kept, with every word of both tables, is what `fed` says.
 //
 // The calls are made in the loop itself, on the core that they concern: a function between the loop and a call would copy the record in
-// and out.
+// and out. Each case puts its own line: the check of cases that meet again costs more than the line said four times.
 pub fn feed(
     r: Reading,
     chunk: &[u8],

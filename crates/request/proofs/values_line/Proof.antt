@@ -26,7 +26,7 @@ returns-2 : tie.Need-returns-2
 unfolding ofLine
 returns-2 c =
     let found = c .before .before .before in
-    rw (sym (found .before .before .parse .ensures) ∙ found .call .given .1, eq-eqb _ _ (c .before .if1 .taken)) (c .unfounded .ensures)
+    rw (sym (found .before .before .parse .ensures) ∙ found .call .given .1, eq-eqb _ 0 (c .before .if1 .taken)) (c .unfounded .ensures)
 
 founded-requires : tie.Need-founded-requires
 founded-requires c κs = search needs
@@ -35,7 +35,7 @@ returns-3 : tie.Need-returns-3
 unfolding ofLine
 returns-3 c =
     let found = c .before .before .before in
-    rw (sym (found .before .before .parse .ensures) ∙ found .call .given .1, ne-eqb _ _ (c .before .if1 .left)) (c .founded .ensures)
+    rw (sym (found .before .before .parse .ensures) ∙ found .call .given .1, ne-eqb _ 0 (c .before .if1 .left)) (c .founded .ensures)
 
 pub values-line-spec : {M : Type 1} → statement M
 values-line-spec = tie.close (tie.spec parse-requires enum-known-call enum-told returns unfounded-requires returns-2 founded-requires returns-3)
