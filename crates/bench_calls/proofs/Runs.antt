@@ -1,5 +1,4 @@
 -- A list of calls, one number after another: what is left of the list, run from where the loop is, gives what the whole list gives.
--- Assumes nothing.
 use mathlib.Core.Path.{_≡_, refl, sym, ap, subst, _∙_}
 use mathlib.Core.List.{List, [], _∷_}
 use Prim.Native.Nat.{ℕ, suc, _+_, _/_, _%_, _≤_, _<_}
@@ -16,38 +15,38 @@ use Rattle.machine.specs.declared.Outcome.{Outcome}
 use Rattle.core.specs.declared.Answer.{Answer}
 use Rattle.core.specs.declared.Answer.the-variants.{Ready, Running, Queued, Begun, Value, Written, Waits, Committed, SetBack, Ended, Finished, Refused}
 use Rattle.core.proofs.Answer as AnswerType
-use Rattle.bench_calls.specs.Lists.{numberOf, door, inside, State, after, ready, next, run, doorRun, insideRun}
+use Rattle.bench_calls.specs.Lists.{numberOf, door, inside, Progress, afterCall, ready, afterNumber, run, doorRun, insideRun}
 use Rattle.bench_calls.proofs.Steps.{Left}
 
 -- where the loop is
-abbrev pub state : Answer → Machine → List ℕ → List ℕ → Machine → State
+abbrev pub state : Answer → Machine → List ℕ → List ℕ → Machine → Progress
 state last m cs ps kept = record { last = numberOf last; world = lent m cs ps; kept = kept }
 
 module _ (step : World → ℕ → ℕ → Result) where
-  run-none : (s : State) → run step s [] ≡ s
+  run-none : (s : Progress) → run step s [] ≡ s
   unfolding run
   run-none s = refl
 
-  run-first : (s : State) (x : ℕ) (xs : List ℕ) → run step s (x ∷ xs) ≡ run step (next step s x) xs
+  run-first : (s : Progress) (x : ℕ) (xs : List ℕ) → run step s (x ∷ xs) ≡ run step (afterNumber step s x) xs
   unfolding run
   run-first s x xs = refl
 
-  next-saves : (s : State) (x : ℕ) → x % 16 ≡ 0
-      → record { last = s .last; world = s .world; kept = s .world .machine } ≡ next step s x
-  unfolding next
+  next-saves : (s : Progress) (x : ℕ) → x % 16 ≡ 0
+      → record { last = s .last; world = s .world; kept = s .world .machine } ≡ afterNumber step s x
+  unfolding afterNumber
   next-saves s x e = rw (eq-eqb (x % 16) 0 e) refl
 
-  next-restores : (s : State) (x : ℕ) → x % 16 ≡ 1
-      → record { last = s .last; world = withMachine (s .world) (s .kept); kept = s .kept } ≡ next step s x
-  unfolding next
+  next-restores : (s : Progress) (x : ℕ) → x % 16 ≡ 1
+      → record { last = s .last; world = withMachine (s .world) (s .kept); kept = s .kept } ≡ afterNumber step s x
+  unfolding afterNumber
   next-restores s x e = rw (ne-eqb (x % 16) 0 (λ z. omega (arith, e, z)), eq-eqb (x % 16) 1 e) refl
 
-  next-calls : (s : State) (x : ℕ) → (x % 16 ≡ 0 → ⊥) → (x % 16 ≡ 1 → ⊥)
-      → after (step (s .world) (x % 16) (x / 16)) (s .kept) ≡ next step s x
-  unfolding next
+  next-calls : (s : Progress) (x : ℕ) → (x % 16 ≡ 0 → ⊥) → (x % 16 ≡ 1 → ⊥)
+      → afterCall (step (s .world) (x % 16) (x / 16)) (s .kept) ≡ afterNumber step s x
+  unfolding afterNumber
   next-calls s x n0 n1 = rw (ne-eqb (x % 16) 0 n0, ne-eqb (x % 16) 1 n1) refl
 
-module _ (step : World → ℕ → ℕ → Result) (t : State) (list : List ℕ) (i : ℕ) (s : State) (here : run step s (drop i list) ≡ t) where
+module _ (step : World → ℕ → ℕ → Result) (t : Progress) (list : List ℕ) (i : ℕ) (s : Progress) (here : run step s (drop i list) ≡ t) where
   pub list-ends : length list ≤ i → s ≡ t
   list-ends h = sym (run-none step s) ∙ ap (run step s) (sym (drop-of-length-le list {i = i} h)) ∙ here
 
@@ -59,9 +58,9 @@ module _ (step : World → ℕ → ℕ → Result) (t : State) (list : List ℕ)
     one-more : suc i ≡ i + 1
     one-more = omega arith
 
-    moved : (s′ : State) → s′ ≡ next step s x → run step s′ (drop (i + 1) list) ≡ t
+    moved : (s′ : Progress) → s′ ≡ afterNumber step s x → run step s′ (drop (i + 1) list) ≡ t
     moved s′ e =
-        ap (λ (y : State). run step y (drop (i + 1) list)) e ∙ sym (run-first step s x (drop (i + 1) list))
+        ap (λ (y : Progress). run step y (drop (i + 1) list)) e ∙ sym (run-first step s x (drop (i + 1) list))
         ∙ ap (run step s) (sym (drop-cons list i 0 h ∙ ap (λ (n : ℕ). x ∷ drop n list) one-more)) ∙ here
 
     pub saves : x % 16 ≡ 0 → run step (record { last = s .last; world = s .world; kept = s .world .machine }) (drop (i + 1) list) ≡ t

@@ -1,4 +1,4 @@
--- One call of a list, by the promise of the function that makes it. Assumes nothing.
+-- One call of a list, by the promise of the function that makes it.
 use mathlib.Core.Path.{_≡_, refl, sym, ap, subst, _∙_}
 use mathlib.Core.Bool.{Bool, true, false, cond}
 use mathlib.Core.List.{List}
@@ -7,19 +7,19 @@ use lib.Dec.{eqb}
 use lib.ListN.{set}
 use borrow.Author.Tests.{ne-eqb}
 use Rattle.machine.specs.Record.{coreAt}
-use Rattle.machine.specs.Rule.{World, Result, lent, left, rule, Release, Begin, Read, Write, Commit, GiveUp, Finish, setup, release, begin, read, write, commit, giveUp, finish, commitRefusal, unlessLent, told, waiting, through, blocked, changed, moved}
-use Rattle.machine.specs.Answers.{named}
+use Rattle.machine.specs.Rule.{World, Result, lent, left, rule, Release, Begin, Read, Write, Commit, GiveUp, Finish, setup, release, begin, read, write, commit, giveUp, finish, commitRefusal, unlessLent, setBackTold, waiting, through, blocked, changed, moved}
+use Rattle.machine.specs.Answers.{coreNamed}
 use Rattle.machine.specs.Sound.{sound}
 use Rattle.machine.specs.declared.Machine.{Machine}
 use Rattle.machine.specs.declared.Outcome.{Outcome}
 use Rattle.core.specs.declared.Answer.the-variants.{Ready, Refused}
-use Rattle.machine.specs.OneCore.{callOf, strikes, settled}
+use Rattle.machine.specs.OneCore.{callOf, struckAll, carriedOut}
 use Rattle.core.specs.declared.calls.Settled.{Settled}
 use Rattle.core.specs.declared.calls.Act.the-variants as Act
 use Rattle.core.specs.declared.calls.Act.{Act}
 use Rattle.bench_calls.specs.declared.Ask.{Ask}
 use Rattle.bench_calls.specs.declared.Ask.the-variants as Ask
-use Rattle.bench_calls.specs.Lists.{numberOf, called, askedOf, tested, door}
+use Rattle.bench_calls.specs.Lists.{numberOf, calledBy, askedOf, tested, door}
 
 -- what a call left is this, but for the core that waits names
 abbrev pub Left : Result → Outcome → List ℕ → List ℕ → Type 0
@@ -38,13 +38,13 @@ commit-alike e w c = refused (commitRefusal w c) (coreAt (w .machine) c .zombie)
     kept false = (refl, refl)
 
     marked : (z b : Bool)
-        → Alike (cond z (told w c) (cond b (waiting w e) (through w c))) (cond z (told w c) (cond b (waiting w 0) (through w c)))
+        → Alike (cond z (setBackTold w c) (cond b (waiting w e) (through w c))) (cond z (setBackTold w c) (cond b (waiting w 0) (through w c)))
     marked true b = (refl, refl)
     marked false b = kept b
 
     refused : (n : ℕ) (z b : Bool)
-        → Alike (unlessLent n w (cond z (told w c) (cond b (waiting w e) (through w c))))
-        (unlessLent n w (cond z (told w c) (cond b (waiting w 0) (through w c))))
+        → Alike (unlessLent n w (cond z (setBackTold w c) (cond b (waiting w e) (through w c))))
+        (unlessLent n w (cond z (setBackTold w c) (cond b (waiting w 0) (through w c))))
     refused zero z b = unfold unlessLent in marked z b
     refused (suc n) z b = unfold unlessLent in (refl, refl)
 
@@ -53,10 +53,10 @@ by-result : (e : Result) (r : Outcome) (cs ps : List ℕ) → left r cs ps ≡ e
 by-result e r cs ps p = (ap (λ (x : Result). numberOf (x .answer)) p, ap (λ (x : Result). x .world) p)
 
 -- commit, whose answer may name another core
-by-commit : (w : World) (c : ℕ) (r : Outcome) (cs ps : List ℕ) → left r cs ps ≡ commit (named (r .answer)) w c → Left (commit 0 w c) r cs ps
+by-commit : (w : World) (c : ℕ) (r : Outcome) (cs ps : List ℕ) → left r cs ps ≡ commit (coreNamed (r .answer)) w c → Left (commit 0 w c) r cs ps
 by-commit w c r cs ps p =
-    let l = by-result (commit (named (r .answer)) w c) r cs ps p in
-    let alike = commit-alike (named (r .answer)) w c in
+    let l = by-result (commit (coreNamed (r .answer)) w c) r cs ps p in
+    let alike = commit-alike (coreNamed (r .answer)) w c in
     (l .0 ∙ alike .0, l .1 ∙ alike .1)
 
 -- a call that is lent none
@@ -67,34 +67,34 @@ module _ (other : Result) (m : Machine) (cs ps : List ℕ) (call c : ℕ) (r : O
   abbrev w : World
   w = lent m cs ps
 
-  pub release-done : call ≡ 3 → r ≡ release m c 7 100 → Left (called other w call c) r cs ps
+  pub release-done : call ≡ 3 → r ≡ release m c 7 100 → Left (calledBy other w call c) r cs ps
   release-done e p =
-      subst (λ (n : ℕ). Left (called other w n c) r cs ps) (sym e) (unfold called rule in by-outcome (release m c 7 100) r cs ps p)
+      subst (λ (n : ℕ). Left (calledBy other w n c) r cs ps) (sym e) (unfold calledBy rule in by-outcome (release m c 7 100) r cs ps p)
 
-  pub begin-done : call ≡ 4 → r ≡ begin m c → Left (called other w call c) r cs ps
+  pub begin-done : call ≡ 4 → r ≡ begin m c → Left (calledBy other w call c) r cs ps
   begin-done e p =
-      subst (λ (n : ℕ). Left (called other w n c) r cs ps) (sym e) (unfold called rule in by-outcome (begin m c) r cs ps p)
+      subst (λ (n : ℕ). Left (calledBy other w n c) r cs ps) (sym e) (unfold calledBy rule in by-outcome (begin m c) r cs ps p)
 
-  pub give-up-done : call ≡ 8 → r ≡ giveUp m c → Left (called other w call c) r cs ps
+  pub give-up-done : call ≡ 8 → r ≡ giveUp m c → Left (calledBy other w call c) r cs ps
   give-up-done e p =
-      subst (λ (n : ℕ). Left (called other w n c) r cs ps) (sym e) (unfold called rule in by-outcome (giveUp m c) r cs ps p)
+      subst (λ (n : ℕ). Left (calledBy other w n c) r cs ps) (sym e) (unfold calledBy rule in by-outcome (giveUp m c) r cs ps p)
 
-  pub finish-done : call ≡ 9 → r ≡ finish m c → Left (called other w call c) r cs ps
+  pub finish-done : call ≡ 9 → r ≡ finish m c → Left (calledBy other w call c) r cs ps
   finish-done e p =
-      subst (λ (n : ℕ). Left (called other w n c) r cs ps) (sym e) (unfold called rule in by-outcome (finish m c) r cs ps p)
+      subst (λ (n : ℕ). Left (calledBy other w n c) r cs ps) (sym e) (unfold calledBy rule in by-outcome (finish m c) r cs ps p)
 
   -- the tables after the call
   module _ (cs′ ps′ : List ℕ) where
-    pub read-done : call ≡ 5 → left r cs′ ps′ ≡ read w c (c / 2 + 32) → Left (called other w call c) r cs′ ps′
+    pub read-done : call ≡ 5 → left r cs′ ps′ ≡ read w c (c / 2 + 32) → Left (calledBy other w call c) r cs′ ps′
     read-done e p =
-        subst (λ (n : ℕ). Left (called other w n c) r cs′ ps′) (sym e) (unfold called rule in by-result (read w c (c / 2 + 32)) r cs′ ps′ p)
+        subst (λ (n : ℕ). Left (calledBy other w n c) r cs′ ps′) (sym e) (unfold calledBy rule in by-result (read w c (c / 2 + 32)) r cs′ ps′ p)
 
-    pub write-done : call ≡ 6 → left r cs′ ps′ ≡ write w c c 5 → Left (called other w call c) r cs′ ps′
+    pub write-done : call ≡ 6 → left r cs′ ps′ ≡ write w c c 5 → Left (calledBy other w call c) r cs′ ps′
     write-done e p =
-        subst (λ (n : ℕ). Left (called other w n c) r cs′ ps′) (sym e) (unfold called rule in by-result (write w c c 5) r cs′ ps′ p)
+        subst (λ (n : ℕ). Left (calledBy other w n c) r cs′ ps′) (sym e) (unfold calledBy rule in by-result (write w c c 5) r cs′ ps′ p)
 
-    pub commit-done : call ≡ 7 → left r cs′ ps′ ≡ commit (named (r .answer)) w c → Left (called other w call c) r cs′ ps′
-    commit-done e p = subst (λ (n : ℕ). Left (called other w n c) r cs′ ps′) (sym e) (unfold called rule in by-commit w c r cs′ ps′ p)
+    pub commit-done : call ≡ 7 → left r cs′ ps′ ≡ commit (coreNamed (r .answer)) w c → Left (calledBy other w call c) r cs′ ps′
+    commit-done e p = subst (λ (n : ℕ). Left (calledBy other w n c) r cs′ ps′) (sym e) (unfold calledBy rule in by-commit w c r cs′ ps′ p)
 
 -- a public call: setup, and each of the others
 module _ (m : Machine) (cs ps : List ℕ) (call c : ℕ) (r : Outcome) (cs′ ps′ : List ℕ) where
@@ -103,19 +103,19 @@ module _ (m : Machine) (cs ps : List ℕ) (call c : ℕ) (r : Outcome) (cs′ ps
       subst (λ (n : ℕ). Left (door (lent m cs ps) n c) r cs′ ps′) (sym e)
       (unfold door in by-result (setup (m .cores) (m .objects) cs ps) r cs′ ps′ p)
 
-  pub past-setup : (call ≡ 2 → ⊥) → Left (called (tested (lent m cs ps)) (lent m cs ps) call c) r cs′ ps′
+  pub past-setup : (call ≡ 2 → ⊥) → Left (calledBy (tested (lent m cs ps)) (lent m cs ps) call c) r cs′ ps′
       → Left (door (lent m cs ps) call c) r cs′ ps′
   unfolding door
   past-setup ne l =
       subst
-      (λ (b : Bool). Left (cond b (setup (m .cores) (m .objects) cs ps) (called (tested (lent m cs ps)) (lent m cs ps) call c)) r cs′ ps′)
+      (λ (b : Bool). Left (cond b (setup (m .cores) (m .objects) cs ps) (calledBy (tested (lent m cs ps)) (lent m cs ps) call c)) r cs′ ps′)
       (sym (ne-eqb call 2 ne)) l
 
 -- a number that is no call
 pub no-call : (other : Result) (m : Machine) (cs ps : List ℕ) (call c : ℕ) (r : Outcome) → left r cs ps ≡ other → (call ≡ 3 → ⊥)
     → (call ≡ 4 → ⊥) → (call ≡ 5 → ⊥) → (call ≡ 6 → ⊥) → (call ≡ 7 → ⊥) → (call ≡ 8 → ⊥) → (call ≡ 9 → ⊥)
-    → Left (called other (lent m cs ps) call c) r cs ps
-unfolding called
+    → Left (calledBy other (lent m cs ps) call c) r cs ps
+unfolding calledBy
 no-call other m cs ps call c r p n3 n4 n5 n6 n7 n8 n9 =
     rw (ne-eqb call 3 n3, ne-eqb call 4 n4, ne-eqb call 5 n5, ne-eqb call 6 n6, ne-eqb call 7 n7, ne-eqb call 8 n8, ne-eqb call 9 n9)
     (by-result other r cs ps p)
@@ -132,8 +132,8 @@ byAsk other w c (Ask.One a) = rule 0 w (callOf a c)
 byAsk other w c Ask.Commit = rule 0 w (Commit c)
 byAsk other w c Ask.Nothing = other
 
-asked-gives : (other : Result) (w : World) (call c : ℕ) → byAsk other w c (askedOf call c) ≡ called other w call c
-unfolding called askedOf
+asked-gives : (other : Result) (w : World) (call c : ℕ) → byAsk other w c (askedOf call c) ≡ calledBy other w call c
+unfolding calledBy askedOf
 asked-gives other w call c = go (eqb call 3) (eqb call 4) (eqb call 5) (eqb call 6) (eqb call 7) (eqb call 8) (eqb call 9)
   where
     go : (three four five six seven eight nine : Bool)
@@ -160,16 +160,16 @@ module _ (other : Result) (m : Machine) (cs ps : List ℕ) (call c : ℕ) (r : O
   abbrev was : World
   was = lent m cs ps
 
-  by-asked : (a : Ask) → askedOf call c ≡ a → Left (byAsk other was c a) r cs′ ps′ → Left (called other was call c) r cs′ ps′
+  by-asked : (a : Ask) → askedOf call c ≡ a → Left (byAsk other was c a) r cs′ ps′ → Left (calledBy other was call c) r cs′ ps′
   by-asked a is = subst (λ (e : Result). Left e r cs′ ps′) (sym (ap (byAsk other was c) is) ∙ asked-gives other was call c)
 
-  pub one-done : (a : Act) → askedOf call c ≡ Ask.One a → left r cs′ ps′ ≡ rule 0 was (callOf a c) → Left (called other was call c) r cs′ ps′
+  pub one-done : (a : Act) → askedOf call c ≡ Ask.One a → left r cs′ ps′ ≡ rule 0 was (callOf a c) → Left (calledBy other was call c) r cs′ ps′
   one-done a is p = by-asked (Ask.One a) is (by-result (rule 0 was (callOf a c)) r cs′ ps′ p)
 
-  pub commit-asked : askedOf call c ≡ Ask.Commit → left r cs′ ps′ ≡ commit (named (r .answer)) was c → Left (called other was call c) r cs′ ps′
+  pub commit-asked : askedOf call c ≡ Ask.Commit → left r cs′ ps′ ≡ commit (coreNamed (r .answer)) was c → Left (calledBy other was call c) r cs′ ps′
   commit-asked is p = by-asked Ask.Commit is (unfold rule in by-commit was c r cs′ ps′ p)
 
-  pub nothing-asked : askedOf call c ≡ Ask.Nothing → left r cs′ ps′ ≡ other → Left (called other was call c) r cs′ ps′
+  pub nothing-asked : askedOf call c ≡ Ask.Nothing → left r cs′ ps′ ≡ other → Left (calledBy other was call c) r cs′ ps′
   nothing-asked is p = by-asked Ask.Nothing is (by-result other r cs′ ps′ p)
 
 -- ---- a commit in place
@@ -183,8 +183,8 @@ pub carried-out : (w : World) (c : ℕ) (r : Settled) (cs versions : List ℕ) (
       tickets = w .machine .tickets;
       commits = w .machine .commits + r .commits;
       «give_ups» = w .machine .«give_ups»;
-      core = strikes (r .writes) (set (w .machine .core) c (r .core));
+      core = struckAll (r .writes) (set (w .machine .core) c (r .core));
       versions = versions;
     }
-    → left (record { answer = r .answer; machine = m }) cs (w .pending) ≡ settled w c r
+    → left (record { answer = r .answer; machine = m }) cs (w .pending) ≡ carriedOut w c r
 carried-out w c r cs versions m p q e = rw (e, p, q) refl

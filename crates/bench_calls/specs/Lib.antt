@@ -1,2 +1,2 @@
--- The definitions that the contracts cite, beside the machine's. Assumes nothing.
+-- The definitions that the contracts cite, beside the machine's.
 pub mod Lists

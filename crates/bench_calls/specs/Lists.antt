@@ -1,4 +1,4 @@
--- What a list of calls gives: the number of the last answer, and the two tables. Assumes nothing.
+-- What a list of calls gives: the number of the last answer, and the two tables.
 use mathlib.Core.Bool.{cond}
 use mathlib.Core.List.{List, [], _∷_}
 use Prim.Native.Nat.{ℕ, _+_, _/_, _%_}
@@ -31,8 +31,8 @@ numberOf (Refused n) = 10
 -- ---- one call
 
 -- a call after setup by its rule, the core that waits names here 0; another number gives `other`
-unfoldable pub called : Result → World → ℕ → ℕ → Result
-called other w call c =
+unfoldable pub calledBy : Result → World → ℕ → ℕ → Result
+calledBy other w call c =
     cond (eqb call 3) (rule 0 w (Release c 7 100))
     (cond (eqb call 4) (rule 0 w (Begin c))
     (cond (eqb call 5) (rule 0 w (Read c (c / 2 + 32)))
@@ -59,47 +59,47 @@ tested w = record { answer = cond (sound (w .machine)) Ready (Refused 2); world 
 -- a public call: setup too; any other number, the soundness test alone
 unfoldable pub door : World → ℕ → ℕ → Result
 door w call c =
-    cond (eqb call 2) (setup (w .machine .cores) (w .machine .objects) (w .committed) (w .pending)) (called (tested w) w call c)
+    cond (eqb call 2) (setup (w .machine .cores) (w .machine .objects) (w .committed) (w .pending)) (calledBy (tested w) w call c)
 
 -- a call in place; any other number changes nothing
 abbrev pub inside : World → ℕ → ℕ → Result
-inside w call c = called (record { answer = Ready; world = w }) w call c
+inside w call c = calledBy (record { answer = Ready; world = w }) w call c
 
 -- ---- a list
 
 -- the number of the last answer, the world after it, and the record that was last kept
-pub record State : Type 0 where
+pub record Progress : Type 0 where
   pub last : ℕ
   pub world : World
   pub kept : Machine
 
-abbrev pub after : Result → Machine → State
-after r kept = record { last = numberOf (r .answer); world = r .world; kept = kept }
+abbrev pub afterCall : Result → Machine → Progress
+afterCall r kept = record { last = numberOf (r .answer); world = r .world; kept = kept }
 
 -- one number of a list: 0 keeps the record, 1 goes back to the one kept, others are calls, for the core x / 16
-unfoldable pub next : (World → ℕ → ℕ → Result) → State → ℕ → State
-next step s x =
+unfoldable pub afterNumber : (World → ℕ → ℕ → Result) → Progress → ℕ → Progress
+afterNumber step s x =
     cond (eqb (x % 16) 0) (record { last = s .last; world = s .world; kept = s .world .machine })
     (cond (eqb (x % 16) 1) (record { last = s .last; world = withMachine (s .world) (s .kept); kept = s .kept })
-    (after (step (s .world) (x % 16) (x / 16)) (s .kept)))
+    (afterCall (step (s .world) (x % 16) (x / 16)) (s .kept)))
 
 -- the numbers of a list, one after another
-unfoldable pub run : (World → ℕ → ℕ → Result) → State → List ℕ → State
+unfoldable pub run : (World → ℕ → ℕ → Result) → Progress → List ℕ → Progress
 run step s [] = s
-run step s (x ∷ xs) = run step (next step s x) xs
+run step s (x ∷ xs) = run step (afterNumber step s x) xs
 
 -- a machine that setup made ready
-abbrev pub ready : World → State
+abbrev pub ready : World → Progress
 ready w = record { last = 1; world = w; kept = w .machine }
 
 -- what setup leaves
-abbrev pub start : Result → State
-start r = after r (r .world .machine)
+abbrev pub start : Result → Progress
+start r = afterCall r (r .world .machine)
 
 -- the list on a new machine, by the public calls
-unfoldable pub doorRun : Result → List ℕ → State
+unfoldable pub doorRun : Result → List ℕ → Progress
 doorRun made list = run door (start made) list
 
 -- the same in place, if setup answers ready, the enum's first case
-unfoldable pub insideRun : Result → List ℕ → State
+unfoldable pub insideRun : Result → List ℕ → Progress
 insideRun made list = cond (eqb (kind (made .answer)) 0) (run inside (start made) list) (start made)

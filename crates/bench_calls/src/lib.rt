@@ -1,6 +1,7 @@
 // Lists of calls on one machine, run through the public calls and in place on the record, for bench/. A list is numbers: the
-// lower four bits say what is done, the rest is the core. What a list gives is specs/Lists.antt. Assumes nothing.
+// lower four bits say what is done, the rest is the core. What a list gives is specs/Lists.antt.
 use core::Answer;
+use core::CORES;
 use core::calls::Act;
 use core::calls::Seen;
 use core::calls::act_on;
@@ -17,7 +18,7 @@ ghost use mathlib.Core.Path.{_≡_};
 ghost use mathlib.Core.Bool.{cond};
 ghost use Rattle.core.specs.declared.Answer.the-variants.{Ready, Refused};
 ghost use Rattle.machine.specs.Rule.{lent, setup as setupRule};
-ghost use Rattle.machine.specs.Inside.{Good};
+ghost use Rattle.machine.specs.Inside.{WellFormedWorld};
 ghost use Rattle.machine.specs.Sound.{sound};
 ghost use Rattle.bench_calls.specs.Lists.{numberOf, askedOf, door, inside, ready, run, doorRun, insideRun};
 
@@ -178,7 +179,7 @@ pub extern "C" fn bench_calls_door(
 // Runs the list on a good world, each call in place: it takes its core out of the record, makes the call on it and puts it back. A
 // number for the last answer.
 fn inside_run(first: Machine, list: &[u32], committed: &mut [u32], pending: &mut [u32]) -> u32
-    requires { ⌜ Good (lent first (now committed) (now pending)) ⌝ }
+    requires { ⌜ WellFormedWorld (lent first (now committed) (now pending)) ⌝ }
     ensures number { λ r. ⌜ r ≡ run inside (ready (lent first (now (committed .entry)) (now (pending .entry)))) (now (list .entry)) .last ⌝ }
     ensures committed { λ r. ⌜ now (committed .exit) ≡ run inside (ready (lent first (now (committed .entry)) (now (pending .entry)))) (now (list .entry)) .world .committed ⌝ }
     ensures pending { λ r. ⌜ now (pending .exit) ≡ run inside (ready (lent first (now (committed .entry)) (now (pending .entry)))) (now (list .entry)) .world .pending ⌝ }
@@ -235,7 +236,7 @@ fn inside_run(first: Machine, list: &[u32], committed: &mut [u32], pending: &mut
                         &mut m.versions,
                     );
                     let mut e: usize = 0;
-                    while e < 16 {
+                    while e < CORES {
                         let other = m.core[e];
                         if is_struck(done.writes, other) {
                             m.core[e] = abort(other);

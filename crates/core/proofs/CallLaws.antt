@@ -1,4 +1,4 @@
--- What a call on one core returns is what `unless` gives: refused where a condition holds, accepted where none does. Assumes nothing.
+-- What a call on one core returns is what `unlessOn` gives: refused where a condition holds, accepted where none does.
 use mathlib.Core.Path.{_≡_, refl, sym, ap, _∙_}
 use mathlib.Core.Bool.{Bool, true, false, cond}
 use mathlib.Core.List.{List, [], _∷_}
@@ -13,7 +13,7 @@ use Rattle.core.specs.declared.calls.Acted.{Acted}
 use Rattle.core.specs.declared.calls.Settled.{Settled}
 use Rattle.core.specs.Parts.{jobAt, running}
 use Rattle.core.specs.Life.{withoutJob, unmarked}
-use Rattle.core.specs.Calls.{first, left, unless, finishOn, stays, passes, commitOn}
+use Rattle.core.specs.Calls.{first, leftOn, unlessOn, finishOn, stays, passes, commitOn}
 
 -- ---- the first condition that holds
 
@@ -31,25 +31,25 @@ none-holds = refl
 
 -- ---- refused and accepted
 
-pub refused : (k : Core) (s : Seen) (r n : ℕ) (done : Acted) → r ≡ suc n → left k s (Refused (suc n)) ≡ unless r k s done
-unfolding unless
-refused k s r n done e = sym (ap (λ (x : ℕ). unless x k s done) e)
+pub refused : (k : Core) (s : Seen) (r n : ℕ) (done : Acted) → r ≡ suc n → leftOn k s (Refused (suc n)) ≡ unlessOn r k s done
+unfolding unlessOn
+refused k s r n done e = sym (ap (λ (x : ℕ). unlessOn x k s done) e)
 
-pub accepted : (k : Core) (s : Seen) (r : ℕ) (done : Acted) → r ≡ 0 → done ≡ unless r k s done
-unfolding unless
-accepted k s r done e = sym (ap (λ (x : ℕ). unless x k s done) e)
+pub accepted : (k : Core) (s : Seen) (r : ℕ) (done : Acted) → r ≡ 0 → done ≡ unlessOn r k s done
+unfolding unlessOn
+accepted k s r done e = sym (ap (λ (x : ℕ). unlessOn x k s done) e)
 
 -- the running job is at place p
 pub finish-leaves : (k : Core) (s : Seen) (p : ℕ) → (k .count ≡ 0 → ⊥) → k .active ≡ false → p ≡ running k
-    → left (withoutJob k p) s (Finished (jobAt k p .number)) ≡ finishOn k s
+    → leftOn (withoutJob k p) s (Finished (jobAt k p .number)) ≡ finishOn k s
 unfolding finishOn
 finish-leaves k s p some off e =
-    ap (λ (q : ℕ). left (withoutJob k q) s (Finished (jobAt k q .number))) e
+    ap (λ (q : ℕ). leftOn (withoutJob k q) s (Finished (jobAt k q .number))) e
     ∙ accepted k s _ _ (skips _ _ _ (ne-eqb _ 0 some) (skips _ _ _ off none-holds))
 
 -- a refusal that is known before, by a number that is not 0
-pub known-before : (k : Core) (s : Seen) (n : ℕ) (done : Acted) → (n ≡ 0 → ⊥) → left k s (Refused n) ≡ unless n k s done
-unfolding unless
+pub known-before : (k : Core) (s : Seen) (n : ℕ) (done : Acted) → (n ≡ 0 → ⊥) → leftOn k s (Refused n) ≡ unlessOn n k s done
+unfolding unlessOn
 known-before k s zero done h = absurd (h refl)
 known-before k s (suc n) done h = refl
 

@@ -1,5 +1,4 @@
 -- The laws of `least`, one for each turn of the search for it, of `running`, and of `without`, one for each turn of the shift.
--- Assumes nothing.
 use mathlib.Core.Path.{_≡_, refl, sym, ap, _∙_}
 use mathlib.Core.Bool.{Bool, true, false, cond}
 use mathlib.Core.List.{List, [], append-assoc, append-nil}

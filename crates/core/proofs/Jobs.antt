@@ -1,5 +1,5 @@
 -- The running job, and what the scheduler relies on in a core's list of jobs: the place of the first job of least deadline, and
--- the list without one job. Assumes nothing.
+-- the list without one job.
 use mathlib.Core.Path.{_≡_, refl, ap, _∙_}
 use mathlib.Core.Bool.{Bool, true, false, cond}
 use mathlib.Core.List.{List, [], _∷_, _++_}

@@ -1,4 +1,4 @@
--- What each call makes of a core keeps the rules that a core keeps by itself, and its shape. Assumes nothing.
+-- What each call makes of a core keeps the rules that a core keeps by itself, and its shape.
 use mathlib.Core.Path.{_≡_, refl, sym, ap, _∙_}
 use mathlib.Core.Bool.{Bool, true, false, cond, _||_, true≢false}
 use mathlib.Core.List.{List}
@@ -14,7 +14,7 @@ use Rattle.objset.proofs.Laws.{both-left, has-added}
 use Rattle.core.specs.declared.Core.{Core}
 use Rattle.core.specs.declared.Job.{Job}
 use Rattle.core.specs.Parts.{noJob, jobAt, idle, running}
-use Rattle.core.specs.Life.{withList, withJob, withTransaction, attempting, unmarked, withSets, aborted, isStruck, struck, over, without}
+use Rattle.core.specs.Life.{withList, withJob, withTransaction, attempting, unmarked, withSets, aborted, isStruck, struckBy, over, without}
 use Rattle.core.specs.Formed.{Formed-core}
 use Rattle.core.proofs.Tidy.{Clear, Tidy}
 use Rattle.core.proofs.Jobs.{least-listed, least-first, without-long, without-unused}
@@ -172,8 +172,8 @@ added-within objects s d fits few card inside e l p = go (has s e) refl (eqb e d
 -- ---- a core at another's commit
 
 -- it is set back, or as it was
-pub struck-either : (P : Core → Type 0) (ws : ℕ) (k : Core) → (isStruck ws k ≡ true → P (aborted k)) → P k → P (struck ws k)
-unfolding struck
+pub struck-either : (P : Core → Type 0) (ws : ℕ) (k : Core) → (isStruck ws k ≡ true → P (aborted k)) → P k → P (struckBy ws k)
+unfolding struckBy
 struck-either P ws k hit missed = go (isStruck ws k) refl
   where
     go : (b : Bool) → isStruck ws k ≡ b → P (cond b (aborted k) k)
@@ -181,18 +181,18 @@ struck-either P ws k hit missed = go (isStruck ws k) refl
     go false e = missed
 
 -- what a set back keeps is kept
-pub struck-keeps : {A : Type 0} (part : Core → A) (ws : ℕ) (k : Core) → part (aborted k) ≡ part k → part (struck ws k) ≡ part k
+pub struck-keeps : {A : Type 0} (part : Core → A) (ws : ℕ) (k : Core) → part (aborted k) ≡ part k → part (struckBy ws k) ≡ part k
 struck-keeps part ws k e = struck-either (λ x. part x ≡ part k) ws k (λ p. e) refl
 
 -- the setbacks rise by at most one, and only where those whom the commit strikes have a later ticket
 pub struck-aborts : (ws : ℕ) (k : Core) (later : Bool) → (isStruck ws k ≡ true → later ≡ true)
-    → struck ws k .aborts ≤ k .aborts + cond later 1 0
+    → struckBy ws k .aborts ≤ k .aborts + cond later 1 0
 struck-aborts ws k later h =
     struck-either (λ x. x .aborts ≤ k .aborts + cond later 1 0) ws k (λ e. rw (h e) (omega arith)) (omega arith)
 
-pub struck-tidy : (objects ws : ℕ) (k : Core) → Tidy objects k → Formed-core k → Tidy objects (struck ws k)
+pub struck-tidy : (objects ws : ℕ) (k : Core) → Tidy objects k → Formed-core k → Tidy objects (struckBy ws k)
 struck-tidy objects ws k s f = struck-either (Tidy objects) ws k (λ e. aborted-tidy objects k s f (both-left (k .active) _ e)) s
 
-pub struck-formed : (ws : ℕ) (k : Core) → Formed-core k → Formed-core (struck ws k)
+pub struck-formed : (ws : ℕ) (k : Core) → Formed-core k → Formed-core (struckBy ws k)
 struck-formed ws k f =
     struck-either Formed-core ws k (λ e. record { jobs-long = f .jobs-long; reads-fit = omega arith; writes-fit = omega arith }) f

@@ -1,5 +1,4 @@
 -- The rules that a core keeps by itself as plain statements: `Tidy objects k` holds if and only if the test `tidy objects k` passes.
--- Assumes nothing.
 use mathlib.Core.Path.{_≡_, sym, ap, _∙_}
 use mathlib.Core.Bool.{true, false, not, _&&_, true≢false}
 use Prim.Native.Nat.{ℕ, _≤_, _<_}
@@ -12,7 +11,7 @@ use Rattle.objset.proofs.Laws.{each-one, one-each}
 use Rattle.core.specs.declared.Core.{Core}
 use Rattle.core.specs.declared.Job.{Job}
 use Rattle.core.specs.Parts.{noJob, jobAt}
-use Rattle.core.specs.Tidy.{_⇒_, setsWithin, ownerListed, emptySets, clear, idleClear, zombieEmpty, atMostEight, zeroJob, unusedJobs, ownerFirst, unused, tidy, blank}
+use Rattle.core.specs.Tidy.{_⇒_, setsWithinOn, ownerListedOn, emptySets, clear, idleClearOn, zombieEmptyOn, atMostEightOn, zeroJob, unusedJobsOn, ownerFirstOn, unused, tidy, blankOn}
 use Rattle.core.proofs.TestLaws.{same-test, if-true, true-if, both}
 
 -- empty sets, no mark, and owner's place, ticket and setbacks 0
@@ -77,8 +76,8 @@ clear-is k s = rw (s .no-reads, s .no-writes, s .no-mark, s .no-owner, s .no-tic
 
 -- ---- a core that passes every test keeps every rule
 
-pub tidy-core : (objects : ℕ) (k : Core) → setsWithin objects k ≡ true → ownerListed k ≡ true → idleClear k ≡ true → zombieEmpty k ≡ true
-    → atMostEight k ≡ true → unusedJobs k ≡ true → ownerFirst k ≡ true → Tidy objects k
+pub tidy-core : (objects : ℕ) (k : Core) → setsWithinOn objects k ≡ true → ownerListedOn k ≡ true → idleClearOn k ≡ true → zombieEmptyOn k ≡ true
+    → atMostEightOn k ≡ true → unusedJobsOn k ≡ true → ownerFirstOn k ≡ true → Tidy objects k
 tidy-core objects k a b e d f g h =
     record {
       reads-within = within (k .reads) objects (sets .0);
@@ -107,26 +106,26 @@ tidy-core objects k a b e d f g h =
 -- ---- a core that keeps every rule passes every test
 
 module _ (objects : ℕ) (k : Core) (t : Tidy objects k) where
-  pub sets-pass : setsWithin objects k ≡ true
+  pub sets-pass : setsWithinOn objects k ≡ true
   sets-pass = rw (is-below (k .reads) objects (t .reads-within), is-below (k .writes) objects (t .writes-within))
 
-  pub owner-passes : ownerListed k ≡ true
+  pub owner-passes : ownerListedOn k ≡ true
   owner-passes = true-if (k .active) _ (λ a. lt-ltb (k .owner) (k .count) (t .owner-listed a))
 
-  pub idle-passes : idleClear k ≡ true
+  pub idle-passes : idleClearOn k ≡ true
   idle-passes = true-if (not (k .active)) _ (λ a. clear-is k (t .idle-clear (not-true (k .active) a)))
 
-  pub zombie-passes : zombieEmpty k ≡ true
+  pub zombie-passes : zombieEmptyOn k ≡ true
   zombie-passes = true-if (k .zombie) _ (λ z. rw (t .zombie-empty z .0, t .zombie-empty z .1))
 
-  pub eight-pass : atMostEight k ≡ true
+  pub eight-pass : atMostEightOn k ≡ true
   eight-pass = le-leb (k .count) 8 (t .at-most-eight)
 
-  pub unused-pass : unusedJobs k ≡ true
+  pub unused-pass : unusedJobsOn k ≡ true
   unused-pass =
       one-each 8 _ (λ p l. true-if (leb (k .count) p) _ (λ u. ap zeroJob (t .unused-jobs p l (leb-true (k .count) p u))))
 
-  pub first-passes : ownerFirst k ≡ true
+  pub first-passes : ownerFirstOn k ≡ true
   first-passes =
       true-if (k .active) _
       (λ a. one-each 8 _
@@ -141,7 +140,7 @@ pub record Blank (k : Core) : Type 0 where
   pub no-count : k .count ≡ 0
   pub no-jobs : (p : ℕ) → p < 8 → jobAt k p ≡ noJob
 
-pub blank-core : (k : Core) → blank k ≡ true → Blank k
+pub blank-core : (k : Core) → blankOn k ≡ true → Blank k
 blank-core k e =
     let s = both _ (emptySets k) e in
     let j = both _ (each 8 (λ p. zeroJob (jobAt k p))) (s .0) in
@@ -166,10 +165,10 @@ blank-core k e =
     }
 
 -- a place for a core that the machine lacks is blank if and only if it keeps the rules and has no jobs and no transaction
-pub blank-tidy : (objects : ℕ) (k : Core) → blank k ≡ (tidy objects k && unused k)
-blank-tidy objects k = same-test (blank k) (tidy objects k && unused k) to from
+pub blank-tidy : (objects : ℕ) (k : Core) → blankOn k ≡ (tidy objects k && unused k)
+blank-tidy objects k = same-test (blankOn k) (tidy objects k && unused k) to from
   where
-    to : blank k ≡ true → (tidy objects k && unused k) ≡ true
+    to : blankOn k ≡ true → (tidy objects k && unused k) ≡ true
     to e =
         let b = blank-core k e in
         let no-object : (s d : ℕ) → s ≡ 0 → has s d ≡ true → d < objects =
@@ -197,14 +196,14 @@ blank-tidy objects k = same-test (blank k) (tidy objects k && unused k) to from
           b .no-transaction,
         )
 
-    from : (tidy objects k && unused k) ≡ true → blank k ≡ true
+    from : (tidy objects k && unused k) ≡ true → blankOn k ≡ true
     from e =
         let u = both (tidy objects k) (unused k) e in
-        let f = both _ (ownerFirst k) (u .0) in
-        let j = both _ (unusedJobs k) (f .0) in
-        let a = both _ (atMostEight k) (j .0) in
-        let z = both _ (zombieEmpty k) (a .0) in
-        let i = both (setsWithin objects k && ownerListed k) (idleClear k) (z .0) in
+        let f = both _ (ownerFirstOn k) (u .0) in
+        let j = both _ (unusedJobsOn k) (f .0) in
+        let a = both _ (atMostEightOn k) (j .0) in
+        let z = both _ (zombieEmptyOn k) (a .0) in
+        let i = both (setsWithinOn objects k && ownerListedOn k) (idleClearOn k) (z .0) in
         let n = both (eqb (k .count) 0) (not (k .active)) (u .1) in
         let none : k .count ≡ 0 = eqb-true (k .count) 0 (n .0) in
         let off = not-true (k .active) (n .1) in

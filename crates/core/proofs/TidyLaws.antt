@@ -1,4 +1,4 @@
--- The laws behind the soundness test of one core. Assumes nothing.
+-- The laws behind the soundness test of one core.
 use mathlib.Core.Path.{_≡_, refl, sym, ap, ap₂, _∙_}
 use mathlib.Core.Bool.{Bool, true, false, not, _&&_, _||_, true≢false}
 use mathlib.Core.List.{List}

@@ -1,5 +1,4 @@
 -- What a call gives on its core (document 01), once the core and the card are found: refusals first, in the order of their numbers.
--- Assumes nothing.
 use mathlib.Core.Path.{_≡_}
 use mathlib.Core.Bool.{Bool, true, cond, not}
 use mathlib.Core.List.{List, [], _∷_}
@@ -15,7 +14,7 @@ use Rattle.core.specs.declared.calls.Act.the-variants.{Release, Begin, R
 use Rattle.core.specs.declared.calls.Seen.{Seen}
 use Rattle.core.specs.declared.calls.Acted.{Acted}
 use Rattle.core.specs.declared.calls.Settled.{Settled}
-use Rattle.core.specs.Parts.{jobAt, running}
+use Rattle.core.specs.Parts.{mostCores, mostJobs, jobAt, running}
 use Rattle.core.specs.Life.{withJob, withoutJob, withTransaction, unmarked, withRead, withWrite, over}
 
 -- the first condition that holds, by its number; 0 where none does
@@ -33,44 +32,44 @@ objectOf GiveUp = 0
 objectOf Finish = 0
 
 -- this core and this answer; all else as it was seen
-abbrev pub left : Core → Seen → Answer → Acted
-left k s a = record { core = k; tickets = s .tickets; «give_ups» = s .«give_ups»; pending = s .pending; answer = a }
+abbrev pub leftOn : Core → Seen → Answer → Acted
+leftOn k s a = record { core = k; tickets = s .tickets; «give_ups» = s .«give_ups»; pending = s .pending; answer = a }
 
 -- the number of a refusal takes the place of what an accepted call gives; nothing changes
-unfoldable pub unless : ℕ → Core → Seen → Acted → Acted
-unless zero k s accepted = accepted
-unless (suc n) k s accepted = left k s (Refused (suc n))
+unfoldable pub unlessOn : ℕ → Core → Seen → Acted → Acted
+unlessOn zero k s accepted = accepted
+unlessOn (suc n) k s accepted = leftOn k s (Refused (suc n))
 
 -- ---- the conditions of refusals
 
 -- the core has 8 jobs
-abbrev pub fullList : Core → Bool
-fullList k = leb 8 (k .count)
+abbrev pub fullListOn : Core → Bool
+fullListOn k = leb mostJobs (k .count)
 
 -- it has no job
-abbrev pub jobless : Core → Bool
-jobless k = eqb (k .count) 0
+abbrev pub joblessOn : Core → Bool
+joblessOn k = eqb (k .count) 0
 
 -- no transaction is in progress
 abbrev pub inactive : Core → Bool
 inactive k = not (k .active)
 
 -- 4,294,967,295 tickets given
-abbrev pub ticketsSpent : ℕ → Bool
-ticketsSpent tickets = leb 4294967295 tickets
+abbrev pub allGiven : ℕ → Bool
+allGiven tickets = leb 4294967295 tickets
 
 -- ---- release: the job joins the end of the list
 
-abbrev pub released : Core → Seen → Job → Acted
-released k s j = left (withJob k j) s (cond (eqb (running (withJob k j)) (k .count)) Running Queued)
+abbrev pub releasedOn : Core → Seen → Job → Acted
+releasedOn k s j = leftOn (withJob k j) s (cond (eqb (running (withJob k j)) (k .count)) Running Queued)
 
 unfoldable pub releaseOn : Core → Seen → ℕ → ℕ → Acted
-releaseOn k s number deadline = unless (first ((fullList k, 6) ∷ [])) k s (released k s (record { number = number; deadline = deadline }))
+releaseOn k s number deadline = unlessOn (first ((fullListOn k, 6) ∷ [])) k s (releasedOn k s (record { number = number; deadline = deadline }))
 
 -- ---- begin: the running job's transaction gets the next ticket
 
-abbrev pub begun : Core → Seen → Acted
-begun k s =
+abbrev pub begunOn : Core → Seen → Acted
+begunOn k s =
     record {
       core = withTransaction k (s .tickets);
       tickets = s .tickets + 1;
@@ -80,45 +79,45 @@ begun k s =
     }
 
 unfoldable pub beginOn : Core → Seen → Acted
-beginOn k s = unless (first ((jobless k, 7) ∷ (k .active, 8) ∷ (ticketsSpent (s .tickets), 10) ∷ [])) k s (begun k s)
+beginOn k s = unlessOn (first ((joblessOn k, 7) ∷ (k .active, 8) ∷ (allGiven (s .tickets), 10) ∷ [])) k s (begunOn k s)
 
 -- ---- a marked transaction's next read, write or commit answers set back and takes away the mark
 
-abbrev pub told : Core → Seen → Acted
-told k s = left (unmarked k) s SetBack
+abbrev pub setBackOn : Core → Seen → Acted
+setBackOn k s = leftOn (unmarked k) s SetBack
 
 -- ---- read: the pending value if this attempt wrote the card, else the committed value; the card joins the read set
 
-abbrev pub valued : Core → Seen → ℕ → Acted
-valued k s d = left (withRead k d) s (Value (cond (has (k .writes) d) (s .pending) (s .committed)) (s .version))
+abbrev pub valuedOn : Core → Seen → ℕ → Acted
+valuedOn k s d = leftOn (withRead k d) s (Value (cond (has (k .writes) d) (s .pending) (s .committed)) (s .version))
 
 unfoldable pub readOn : Core → Seen → ℕ → Acted
-readOn k s d = unless (first ((inactive k, 9) ∷ [])) k s (cond (k .zombie) (told k s) (valued k s d))
+readOn k s d = unlessOn (first ((inactive k, 9) ∷ [])) k s (cond (k .zombie) (setBackOn k s) (valuedOn k s d))
 
 -- ---- write: stores the pending word; the card joins the write set
 
-abbrev pub written : Core → Seen → ℕ → ℕ → Acted
-written k s d v =
+abbrev pub writtenOn : Core → Seen → ℕ → ℕ → Acted
+writtenOn k s d v =
     record { core = withWrite k d; tickets = s .tickets; «give_ups» = s .«give_ups»; pending = v; answer = Written }
 
 unfoldable pub writeOn : Core → Seen → ℕ → ℕ → Acted
-writeOn k s d v = unless (first ((inactive k, 9) ∷ [])) k s (cond (k .zombie) (told k s) (written k s d v))
+writeOn k s d v = unlessOn (first ((inactive k, 9) ∷ [])) k s (cond (k .zombie) (setBackOn k s) (writtenOn k s d v))
 
 -- ---- give up: the transaction ends without effect
 
-abbrev pub ended : Core → Seen → Acted
-ended k s = record { core = over k; tickets = s .tickets; «give_ups» = s .«give_ups» + 1; pending = s .pending; answer = Ended }
+abbrev pub endedOn : Core → Seen → Acted
+endedOn k s = record { core = over k; tickets = s .tickets; «give_ups» = s .«give_ups» + 1; pending = s .pending; answer = Ended }
 
 unfoldable pub giveUpOn : Core → Seen → Acted
-giveUpOn k s = unless (first ((inactive k, 9) ∷ [])) k s (ended k s)
+giveUpOn k s = unlessOn (first ((inactive k, 9) ∷ [])) k s (endedOn k s)
 
 -- ---- finish: the running job leaves the list; its number is the answer
 
-abbrev pub finished : Core → Seen → Acted
-finished k s = left (withoutJob k (running k)) s (Finished (jobAt k (running k) .number))
+abbrev pub finishedOn : Core → Seen → Acted
+finishedOn k s = leftOn (withoutJob k (running k)) s (Finished (jobAt k (running k) .number))
 
 unfoldable pub finishOn : Core → Seen → Acted
-finishOn k s = unless (first ((jobless k, 7) ∷ (k .active, 8) ∷ [])) k s (finished k s)
+finishOn k s = unlessOn (first ((joblessOn k, 7) ∷ (k .active, 8) ∷ [])) k s (finishedOn k s)
 
 -- ---- one rule for the six; n is the number of a refusal that is known before, 0 where there is none
 
@@ -131,11 +130,11 @@ taken GiveUp k s = giveUpOn k s
 taken Finish k s = finishOn k s
 
 unfoldable pub actOn : ℕ → Act → Core → Seen → Acted
-actOn n a k s = unless n k s (taken a k s)
+actOn n a k s = unlessOn n k s (taken a k s)
 
 -- what a sound record gives of its core: a list of at most 8 jobs, and a give-up more while a transaction is in progress
 pub record Fits (k : Core) (s : Seen) : Type 0 where
-  pub few-jobs : k .count ≤ 8
+  pub few-jobs : k .count ≤ mostJobs
   pub one-more : k .active ≡ true → s .«give_ups» < 4294967295
 
 -- ---- commit, on its own core; e is the core that holds it back, 16 or more where none does
@@ -151,5 +150,5 @@ passes k = record { core = over k; writes = k .writes; commits = 1; answer = Com
 -- 9 where none is in progress
 unfoldable pub commitOn : ℕ → Core → ℕ → Settled
 commitOn zero k e =
-    cond (k .active) (cond (k .zombie) (stays (unmarked k) SetBack) (cond (ltb e 16) (stays k (Waits e)) (passes k))) (stays k (Refused 9))
+    cond (k .active) (cond (k .zombie) (stays (unmarked k) SetBack) (cond (ltb e mostCores) (stays k (Waits e)) (passes k))) (stays k (Refused 9))
 commitOn (suc n) k e = stays k (Refused (suc n))

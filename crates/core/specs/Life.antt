@@ -1,5 +1,5 @@
 -- What becomes of a core: a job joins or leaves its list; its transaction is begun, told, struck, over, a card joins a set; and which
--- two transactions conflict. Assumes nothing.
+-- two transactions conflict.
 use mathlib.Core.Bool.{Bool, true, false, cond, _&&_, _||_}
 use mathlib.Core.List.{List, [], _∷_, _++_}
 use Prim.Native.Nat.{ℕ, suc, _+_, _-_}
@@ -85,8 +85,8 @@ abbrev pub isStruck : ℕ → Core → Bool
 isStruck ws k = k .active && meeting ws (dataSet k)
 
 -- such a transaction is set back
-unfoldable pub struck : ℕ → Core → Core
-struck ws k = cond (isStruck ws k) (aborted k) k
+unfoldable pub struckBy : ℕ → Core → Core
+struckBy ws k = cond (isStruck ws k) (aborted k) k
 
 -- the transaction of a core ends; its jobs stay
 abbrev pub over : Core → Core
@@ -95,9 +95,9 @@ over k = idle (k .jobs) (k .count)
 -- ---- two transactions
 
 -- two transactions conflict if the write set of either meets the data set of the other
-abbrev pub conflict : Core → Core → Bool
-conflict a b = meeting (a .writes) (dataSet b) || meeting (b .writes) (dataSet a)
+abbrev pub conflicting : Core → Core → Bool
+conflicting a b = meeting (a .writes) (dataSet b) || meeting (b .writes) (dataSet a)
 
 -- core b holds a conflicting transaction with a smaller ticket than core a's
 abbrev pub holdsBack : Core → Core → Bool
-holdsBack b a = b .active && ltb (b .ticket) (a .ticket) && conflict a b
+holdsBack b a = b .active && ltb (b .ticket) (a .ticket) && conflicting a b

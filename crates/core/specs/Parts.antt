@@ -1,4 +1,4 @@
--- The parts of a core: a job, a core without a transaction, the data set, the running job. Assumes nothing.
+-- The parts of a core: a job, a core without a transaction, the data set, the running job.
 use mathlib.Core.Bool.{Bool, false, cond}
 use mathlib.Core.List.{List, []}
 use Prim.Native.Nat.{ℕ, zero, suc}
@@ -7,6 +7,13 @@ use lib.ListN.{getD, replicate}
 use Rattle.objset.specs.Objset.{joined}
 use Rattle.core.specs.declared.Core.{Core}
 use Rattle.core.specs.declared.Job.{Job}
+
+-- how many cores a machine has at most, and how many jobs a core's list (document 01: 16 and 8)
+abbrev pub mostCores : ℕ
+mostCores = 16
+
+abbrev pub mostJobs : ℕ
+mostJobs = 8
 
 -- what stands in an unused job place
 abbrev pub noJob : Job
@@ -25,7 +32,7 @@ idle jobs n = record { jobs = jobs; count = n; active = false; owner = 0; ticket
 
 -- a core with no job and no transaction
 abbrev pub blankCore : Core
-blankCore = idle (replicate 8 noJob) 0
+blankCore = idle (replicate mostJobs noJob) 0
 
 -- data set: read set and write set together
 abbrev pub dataSet : Core → ℕ

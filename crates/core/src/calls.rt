@@ -1,7 +1,9 @@
 // What a call gives on its core, once the core and the card are found: the six calls that concern one core, and the part of commit that
-// does. Each promise is an equation with a definition of specs/Calls.antt. Assumes nothing.
+// does. Each promise is an equation with a definition of specs/Calls.antt.
 use crate::Answer;
+use crate::CORES;
 use crate::Core;
+use crate::JOBS;
 use crate::inside::jobs::join;
 use crate::inside::jobs::leave;
 use crate::inside::jobs::running_of;
@@ -9,7 +11,14 @@ use crate::inside::transaction;
 ghost use mathlib.Core.Path.{_≡_};
 ghost use mathlib.Core.Bool.{true};
 ghost use Prim.Native.Nat.{_≤_, _<_};
-ghost use Rattle.core.specs.Calls.{objectOf, left, releaseOn, beginOn, readOn, writeOn, giveUpOn, finishOn, actOn, stays, commitOn, Fits};
+ghost use Rattle.core.specs.Calls.{objectOf, leftOn, releaseOn, beginOn, readOn, writeOn, giveUpOn, finishOn, actOn, stays, commitOn, Fits};
+ghost use Rattle.core.specs.Parts.{mostJobs};
+
+// The most jobs, as the list's count has them.
+const MOST_JOBS: u8 = JOBS as u8;
+
+// No core: where nobody is ahead.
+pub const NOBODY: u8 = CORES as u8;
 
 // A call that concerns one core, without that core.
 pub enum Act {
@@ -68,7 +77,7 @@ pub fn object_of(a: Act) -> u32
 
 // This core and this answer; all else as it was seen.
 fn leaving(k: Core, s: Seen, answer: Answer) -> Acted
-    ensures { λ r. ⌜ r ≡ left k s answer ⌝ }
+    ensures { λ r. ⌜ r ≡ leftOn k s answer ⌝ }
 {
     Acted {
         core: k,
@@ -83,7 +92,7 @@ fn leaving(k: Core, s: Seen, answer: Answer) -> Acted
 fn release(k: Core, s: Seen, number: u16, deadline: u32) -> Acted
     ensures { λ r. ⌜ r ≡ releaseOn k s number deadline ⌝ }
 {
-    if 8 <= k.count {
+    if MOST_JOBS <= k.count {
         return leaving(k, s, Answer::Refused(6));
     }
     let joined = join(k, number, deadline);
@@ -95,7 +104,7 @@ fn release(k: Core, s: Seen, number: u16, deadline: u32) -> Acted
 
 // The running job's transaction gets the next ticket: 7 no job, 8 a transaction is in progress, 10 every ticket is given.
 fn begin(k: Core, s: Seen) -> Acted
-    requires { ⌜ k .count ≤ 8 ⌝ }
+    requires { ⌜ k .count ≤ mostJobs ⌝ }
     ensures { λ r. ⌜ r ≡ beginOn k s ⌝ }
 {
     if k.count == 0 {
@@ -173,7 +182,7 @@ fn give_up(k: Core, s: Seen) -> Acted
 
 // The running job leaves the list; its number is the answer. 7 no job, 8 a transaction is in progress.
 fn finish(k: Core, s: Seen) -> Acted
-    requires { ⌜ k .count ≤ 8 ⌝ }
+    requires { ⌜ k .count ≤ mostJobs ⌝ }
     ensures { λ r. ⌜ r ≡ finishOn k s ⌝ }
 {
     if k.count == 0 {
@@ -218,7 +227,7 @@ fn staying(k: Core, answer: Answer) -> Settled
 }
 
 // What a commit gives on its own core: a refusal that is known before, of that number; 9 none in progress; a marked transaction is told
-// that it was set back; one that is held back, by core `ahead`, waits; any other is over and its write set is committed. From 16 on
+// that it was set back; one that is held back, by core `ahead`, waits; any other is over and its write set is committed. From NOBODY on
 // `ahead` is no core.
 pub fn settle(refusal: u8, k: Core, ahead: u8) -> Settled
     ensures { λ r. ⌜ r ≡ commitOn refusal k ahead ⌝ }
@@ -232,7 +241,7 @@ pub fn settle(refusal: u8, k: Core, ahead: u8) -> Settled
     if k.zombie {
         return staying(transaction::tell(k), Answer::SetBack);
     }
-    if ahead < 16 {
+    if ahead < NOBODY {
         return staying(k, Answer::Waits(ahead));
     }
     Settled {

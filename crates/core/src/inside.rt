@@ -1,4 +1,3 @@
 // What a call makes of one core. Some functions ask what a sound record gives of it: a place in the list, a count that can rise.
-// Assumes nothing.
 pub mod jobs;
 pub mod transaction;

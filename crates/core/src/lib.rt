@@ -1,5 +1,5 @@
 // One core of the machine: its list of jobs and its transaction (document 01); what one core keeps by itself, and what a call gives
-// there. The whole machine is the crate above. Each promise is an equation with a definition of specs/. Assumes nothing.
+// there. The whole machine is the crate above. Each promise is an equation with a definition of specs/.
 ghost use mathlib.Core.Path.{_≡_};
 ghost use Rattle.core.specs.Parts.{blankCore};
 
@@ -10,6 +10,11 @@ mod soundness;
 pub use soundness::is_blank;
 pub use soundness::is_tidy;
 
+// How many cores a machine has at most, and how many jobs a core's list.
+pub const CORES: usize = 16;
+
+pub const JOBS: usize = 8;
+
 // A job in a core's list.
 pub struct Job {
     pub number: u16,
@@ -19,7 +24,7 @@ pub struct Job {
 // One core: its list of jobs and its transaction. The small fields stand together, which saves the compiler copies of what lies between.
 pub struct Core {
     // the list, in order of release; the places from count on are unused
-    pub jobs: [Job; 8],
+    pub jobs: [Job; JOBS],
     pub count: u8,
     // a transaction is in progress
     pub active: bool,
@@ -67,7 +72,7 @@ impl Core {
             deadline: 0,
         };
         Core {
-            jobs: [none; 8],
+            jobs: [none; JOBS],
             count: 0,
             active: false,
             owner: 0,

@@ -1,14 +1,19 @@
 // The soundness test of one core, whatever its fields hold: the standing rules (document 01) that a core keeps by itself. Each promise
-// is an equation with the rules' own definitions in specs/Tidy.antt. Assumes nothing.
+// is an equation with the rules' own definitions in specs/Tidy.antt.
 use crate::Core;
+use crate::JOBS;
 ghost use mathlib.Core.Path.{_≡_};
 ghost use mathlib.Core.Bool.{_&&_};
 ghost use Prim.Native.Nat.{_<_};
-ghost use Rattle.core.specs.Tidy.{emptySets, clear, setsWithin, ownerListed, idleClear, zombieEmpty, unusedJobs, firstListed, tidy, blank};
+ghost use Rattle.core.specs.Tidy.{emptySets, clear, setsWithinOn, ownerListedOn, idleClearOn, zombieEmptyOn, unusedJobsOn, firstListed, tidy, blankOn};
+ghost use Rattle.core.specs.Parts.{mostJobs};
+
+// The most jobs, as the list's count has them.
+const MOST_JOBS: u8 = JOBS as u8;
 
 // Whether the core's sets lie within the objects.
 fn sets_within(k: Core, objects: u8) -> bool
-    ensures { λ r. ⌜ r ≡ setsWithin objects k ⌝ }
+    ensures { λ r. ⌜ r ≡ setsWithinOn objects k ⌝ }
 {
     let n = objects as usize;
     objset::within(objset::union(k.reads, k.writes), n)
@@ -42,7 +47,7 @@ fn is_clear(k: Core) -> bool
 
 // Whether the transaction's job is one of the list's, a core without a transaction is clear, and a marked one has empty sets.
 fn transaction_tidy(k: Core) -> bool
-    ensures { λ r. ⌜ r ≡ (ownerListed k && idleClear k && zombieEmpty k) ⌝ }
+    ensures { λ r. ⌜ r ≡ (ownerListedOn k && idleClearOn k && zombieEmptyOn k) ⌝ }
 {
     if k.active {
         if k.count <= k.owner {
@@ -58,11 +63,11 @@ fn transaction_tidy(k: Core) -> bool
 
 // Whether the unused job places hold zeros.
 fn unused_zero(k: Core) -> bool
-    ensures { λ r. ⌜ r ≡ unusedJobs k ⌝ }
+    ensures { λ r. ⌜ r ≡ unusedJobsOn k ⌝ }
 {
     let jobs = k.jobs;
     let mut p = k.count as usize;
-    while p < 8 {
+    while p < JOBS {
         let j = jobs[p];
         if j.number != 0 {
             return false;
@@ -77,7 +82,7 @@ fn unused_zero(k: Core) -> bool
 
 // Whether every job listed before the owner's has a greater deadline.
 fn owner_first(k: Core) -> bool
-    requires { ⌜ k .owner < 8 ⌝ }
+    requires { ⌜ k .owner < mostJobs ⌝ }
     ensures { λ r. ⌜ r ≡ firstListed k ⌝ }
 {
     let jobs = k.jobs;
@@ -104,7 +109,7 @@ pub fn is_tidy(k: Core, objects: u8) -> bool
     if !transaction_tidy(k) {
         return false;
     }
-    if k.count > 8 {
+    if k.count > MOST_JOBS {
         return false;
     }
     if !unused_zero(k) {
@@ -119,12 +124,12 @@ pub fn is_tidy(k: Core, objects: u8) -> bool
 // Whether every field of the core is 0. A job counts as one number, its deadline above its number, and all are joined before they are
 // tested: so the compiler takes several at a time.
 pub fn is_blank(k: Core) -> bool
-    ensures { λ r. ⌜ r ≡ blank k ⌝ }
+    ensures { λ r. ⌜ r ≡ blankOn k ⌝ }
 {
     let jobs = k.jobs;
     let mut all = objset::union(k.reads, k.writes);
     let mut p: usize = 0;
-    while p < 8 {
+    while p < JOBS {
         let j = jobs[p];
         all = objset::union(j.number as u64 + j.deadline as u64 * 4294967296, all);
         p += 1;

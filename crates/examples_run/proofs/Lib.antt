@@ -1,2 +1,2 @@
--- A record that breaks each standing rule alone; no proof here cites it. Assumes nothing.
+-- A record that breaks each standing rule alone; no proof here cites it.
 mod StandingTable

@@ -1,5 +1,5 @@
 -- Each standing rule is a rule of its own: for each a record that breaks that rule alone and its mended twin, which is sound.
--- One computed test proves the whole table. Assumes nothing.
+-- One computed test proves the whole table.
 use mathlib.Core.Path.{_≡_, refl}
 use mathlib.Core.Bool.{Bool, true, false, not, _&&_, _||_}
 use mathlib.Core.List.{List, [], _∷_, _++_}
@@ -12,7 +12,7 @@ use Rattle.core.specs.declared.Core.{Core}
 use Rattle.core.specs.declared.Job.{Job}
 use Rattle.core.specs.Parts.{noJob, idle, blankCore}
 use Rattle.machine.specs.Record.{tally}
-use Rattle.machine.specs.Sound.{inRange, setsWithin, ownerListed, idleClear, zombieEmpty, atMostEight, unusedJobs, lackedCores, lackedObjects, ownerFirst, ticketsDiffer, ticketsGiven, ticketsCounted, versionsBounded, ahead, abortsBounded, sound}
+use Rattle.machine.specs.Sound.{inRange, setsWithin, ownerListed, idleClear, zombieEmpty, atMostEight, unusedJobs, lackedCores, lackedObjects, ownerFirst, ticketsDiffer, ticketsGiven, ticketsCounted, versionsBounded, smallerTickets, abortsBounded, sound}
 
 -- the tests of the fifteen rules, in the order of `sound`
 unfoldable pub tests : Machine → List Bool
@@ -186,5 +186,5 @@ table =
     ∷ []
 
 pub each-rule-alone : allHold 0 table ≡ true
-unfolding tests allPass onlyFails holds allHold listed unnumbered job busy left machine givenUp row oneCore noTicket fresh second table inRange setsWithin ownerListed idleClear zombieEmpty atMostEight unusedJobs lackedCores lackedObjects ownerFirst ticketsDiffer ticketsGiven ticketsCounted versionsBounded ahead abortsBounded sound tally has each below
+unfolding tests allPass onlyFails holds allHold listed unnumbered job busy left machine givenUp row oneCore noTicket fresh second table inRange setsWithin ownerListed idleClear zombieEmpty atMostEight unusedJobs lackedCores lackedObjects ownerFirst ticketsDiffer ticketsGiven ticketsCounted versionsBounded smallerTickets abortsBounded sound tally has each below
 each-rule-alone = refl

@@ -1,5 +1,5 @@
 -- The starred examples of document 01, and K, as one table: a setup, the calls after it with their answers, and the cards at the
--- end. One computed test proves the whole table. Assumes nothing.
+-- end. One computed test proves the whole table.
 use mathlib.Core.Path.{_≡_, refl}
 use mathlib.Core.Bool.{Bool, true, _&&_}
 use mathlib.Core.List.{List, [], _∷_, _++_}
@@ -10,11 +10,11 @@ use Rattle.core.specs.declared.Answer.{Answer}
 use Rattle.core.specs.declared.Answer.the-variants.{Ready, Running, Queued, Begun, Value, Written, Waits, Committed, SetBack, Ended, Finished, Refused}
 use Rattle.machine.specs.Record.{tally}
 use Rattle.core.specs.Parts.{least, running}
-use Rattle.machine.specs.Sound.{inRange, setsWithin, ownerListed, idleClear, zombieEmpty, atMostEight, unusedJobs, lackedCores, lackedObjects, ownerFirst, ticketsDiffer, ticketsGiven, ticketsCounted, versionsBounded, ahead, abortsBounded, sound}
-use Rattle.machine.specs.Answers.{kind, values, named, sameList, sameAnswer}
-use Rattle.machine.specs.Rule.{World, Result, unless, unlessLent, setup, released, release, begun, begin, told, accessRefusal, valueRead, valued, read, written, write, contender, blocked, cleared, changed, through, commitRefusal, commit, ended, giveUp, finished, finish, rule, Call, Release, Begin, Read, Write, Commit, GiveUp, Finish}
+use Rattle.machine.specs.Sound.{inRange, setsWithin, ownerListed, idleClear, zombieEmpty, atMostEight, unusedJobs, lackedCores, lackedObjects, ownerFirst, ticketsDiffer, ticketsGiven, ticketsCounted, versionsBounded, smallerTickets, abortsBounded, sound}
+use Rattle.machine.specs.Answers.{kind, values, coreNamed, sameList, sameAnswer}
+use Rattle.machine.specs.Rule.{World, Result, unless, unlessLent, setup, released, release, begun, begin, setBackTold, accessRefusal, valueRead, valued, read, written, write, contender, blocked, cleared, changed, through, commitRefusal, commit, ended, giveUp, finished, finish, rule, Call, Release, Begin, Read, Write, Commit, GiveUp, Finish}
 use Rattle.core.specs.Calls.{first}
-use Rattle.core.specs.Life.{struck}
+use Rattle.core.specs.Life.{struckBy}
 
 -- a call and the answer that document 01 says it gets
 pub record Expected : Type 0 where
@@ -32,7 +32,7 @@ pub record Example : Type 0 where
 unfoldable pub follows : World → List Expected → List ℕ → Bool
 follows w [] cards = sameList (w .committed) cards
 follows w (x ∷ xs) cards =
-    let r : Result = rule (named (x .answer)) w (x .call) in
+    let r : Result = rule (coreNamed (x .answer)) w (x .call) in
     sameAnswer (r .answer) (x .answer) && follows (r .world) xs cards
 
 unfoldable pub holds : Example → Bool
@@ -190,5 +190,5 @@ examples =
     ++ (exampleD ∷ exampleE ∷ exampleF ∷ exampleG ∷ exampleH ∷ exampleI ∷ exampleJ ∷ exampleK ∷ [])
 
 pub all-hold : allHold examples ≡ true
-unfolding examples exampleA refusedSetup acceptedSetup exampleB exampleC exampleD exampleE exampleF bothBegun exampleG exampleH exampleI exampleJ exampleK allHold holds follows rule setup first unless unlessLent released release begun begin told accessRefusal valueRead valued read written write contender blocked struck cleared changed through commitRefusal commit ended giveUp finished finish kind values named sameList sameAnswer tally least running inRange setsWithin ownerListed idleClear zombieEmpty atMostEight unusedJobs lackedCores lackedObjects ownerFirst ticketsDiffer ticketsGiven ticketsCounted versionsBounded ahead abortsBounded sound has collect some each none added joined meeting below
+unfolding examples exampleA refusedSetup acceptedSetup exampleB exampleC exampleD exampleE exampleF bothBegun exampleG exampleH exampleI exampleJ exampleK allHold holds follows rule setup first unless unlessLent released release begun begin setBackTold accessRefusal valueRead valued read written write contender blocked struckBy cleared changed through commitRefusal commit ended giveUp finished finish kind values coreNamed sameList sameAnswer tally least running inRange setsWithin ownerListed idleClear zombieEmpty atMostEight unusedJobs lackedCores lackedObjects ownerFirst ticketsDiffer ticketsGiven ticketsCounted versionsBounded smallerTickets abortsBounded sound has collect some each none added joined meeting below
 all-hold = refl

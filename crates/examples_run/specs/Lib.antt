@@ -1,2 +1,2 @@
--- The examples of document 01 by the rule that the contracts of `machine` cite; no contract here cites them. Assumes nothing.
+-- The examples of document 01 by the rule that the contracts of `machine` cite; no contract here cites them.
 pub mod Examples

@@ -1,5 +1,5 @@
 -- The promise of each public call after setup is what a step of a run asks (Follows): so the claim in setup's promise is about the
--- calls that run. Assumes nothing.
+-- calls that run.
 use mathlib.Core.Path.{_≡_, refl, sym, ap, _∙_}
 use mathlib.Core.Bool.{true}
 use mathlib.Core.List.{List}
@@ -8,7 +8,7 @@ use Rattle.machine.specs.declared.Machine.{Machine}
 use Rattle.machine.specs.declared.Outcome.{Outcome}
 use Rattle.core.specs.declared.Answer.{Answer}
 use Rattle.core.specs.declared.Answer.the-variants.{Waits}
-use Rattle.machine.specs.Answers.{named}
+use Rattle.machine.specs.Answers.{coreNamed}
 use Rattle.machine.specs.Rule.{World, Result, lent, left, release, begin, read, write, commit, giveUp, finish, contender, rule, Call, Release, Begin, Read, Write, Commit, GiveUp, Finish}
 use Rattle.core.specs.declared.calls.Act.{Act}
 use Rattle.core.specs.declared.calls.Act.the-variants as Act
@@ -22,8 +22,8 @@ unnamed : (w : World) (call : Call) (a : Answer) (w′ : World) → ((e : ℕ) �
     → Case w call (rule 0 w call .answer) (rule 0 w call .world) → record { answer = a; world = w′ } ≡ rule 0 w call → Follows w call a w′
 unnamed w call a w′ same c e =
     record {
-      answer-is = ap (λ (r : Result). r .answer) (e ∙ sym (same (named a)));
-      world-is = ap (λ (r : Result). r .world) (e ∙ sym (same (named a)));
+      answer-is = ap (λ (r : Result). r .answer) (e ∙ sym (same (coreNamed a)));
+      world-is = ap (λ (r : Result). r .world) (e ∙ sym (same (coreNamed a)));
       waits-for = λ b p. waits-only c b (sym (ap (λ (r : Result). r .answer) e) ∙ p);
     }
 
@@ -68,7 +68,7 @@ module _ (m : Machine) (cs ps : List ℕ) (r : Outcome) where
     write-follows c d v e =
         unnamed (lent m cs ps) (Write c d v) (r .answer) (lent (r .machine) cs′ ps′) (λ b. refl) (write-case (lent m cs ps) c d v) e
 
-    pub commit-follows : (c : ℕ) → left r cs′ ps′ ≡ commit (named (r .answer)) (lent m cs ps) c
+    pub commit-follows : (c : ℕ) → left r cs′ ps′ ≡ commit (coreNamed (r .answer)) (lent m cs ps) c
         → ((e : ℕ) → r .answer ≡ Waits e → contender m c e ≡ true)
         → Follows (lent m cs ps) (Commit c) (r .answer) (lent (r .machine) cs′ ps′)
     unfolding rule

@@ -1,5 +1,4 @@
 -- The conditions of refusals, and a call that is lent the tables: refused where a condition holds, accepted where none does.
--- Assumes nothing.
 use mathlib.Core.Path.{_≡_, sym, ap, ap₂}
 use mathlib.Core.Bool.{true, false, not, _&&_}
 use Prim.Native.Nat.{ℕ, suc, _≤_, _<_}
@@ -7,7 +6,7 @@ use borrow.Author.Tests.{lt-ltb, le-ltb, eq-eqb}
 use Rattle.core.specs.declared.Answer.the-variants.{Refused}
 use Rattle.machine.specs.declared.Machine.{Machine}
 use Rattle.machine.specs.Sound.{sound}
-use Rattle.machine.specs.Inside.{Fine}
+use Rattle.machine.specs.Inside.{SoundWorld}
 use Rattle.machine.specs.Rule.{World, Result, unlessLent, unsound, wrongTables, noSuchCore, noSuchObject}
 
 -- ---- the conditions of refusals
@@ -37,5 +36,5 @@ an-object m d h = ap not (lt-ltb d (m .objects) h)
 pub no-object : (m : Machine) (d : ℕ) → m .objects ≤ d → noSuchObject m d ≡ true
 no-object m d h = ap not (le-ltb d (m .objects) h)
 
-pub tables-fit : (w : World) → Fine w → wrongTables w ≡ false
+pub tables-fit : (w : World) → SoundWorld w → wrongTables w ≡ false
 tables-fit w f = ap not (ap₂ _&&_ (eq-eqb _ _ (f .committed-long)) (eq-eqb _ _ (f .pending-long)))

@@ -1,5 +1,5 @@
 -- The rule can be kept: for every world and call there is an answer and a next world that follow it. In particular it never says
--- waits with nobody ahead. Assumes nothing.
+-- waits with nobody ahead.
 use mathlib.Core.Path.{_≡_, refl, sym, ap}
 use mathlib.Core.Bool.{Bool, true, false, cond, _||_, true≢false}
 use Prim.Native.Nat.{ℕ, zero, suc}
@@ -9,10 +9,10 @@ use Rattle.objset.specs.Objset.{some}
 use Rattle.machine.specs.declared.Machine.{Machine}
 use Rattle.core.specs.declared.Answer.{Answer}
 use Rattle.core.specs.declared.Answer.the-variants.{Running, Queued, Waits}
-use Rattle.machine.specs.Answers.{named}
+use Rattle.machine.specs.Answers.{coreNamed}
 use Rattle.machine.specs.Record.{coreAt}
 use Rattle.core.specs.Parts.{running}
-use Rattle.machine.specs.Rule.{World, Result, Call, Release, Begin, Read, Write, Commit, GiveUp, Finish, coreOf, rule, unlessLent, told, waiting, through, released, finished, valued, contender, blocked, leastOf, firstAhead, commitRefusal, commit}
+use Rattle.machine.specs.Rule.{World, Result, Call, Release, Begin, Read, Write, Commit, GiveUp, Finish, coreOf, rule, unlessLent, setBackTold, waiting, through, released, finished, valued, contender, blocked, leastOf, firstAhead, commitRefusal, commit}
 use Rattle.core.specs.Life.{withJob}
 use Rattle.machine.specs.Follows.{Follows}
 use Rattle.machine.proofs.Case.{Case, is-refused, is-released, is-begun, is-told, is-valued, is-written, is-waiting, is-through, is-ended, is-finished, release-case, begin-case, read-case, write-case, commit-case, give-up-case, finish-case}
@@ -41,22 +41,22 @@ waits-only (is-finished ok job idle) e p = let z : _≡_ {A = ℕ} 0 1 = cc in a
 plain : (e : ℕ) (w : World) (call : Call) → ((b : ℕ) → rule b w call ≡ rule e w call) → Case w call (rule e w call .answer) (rule e w call .world)
     → Follows w call (rule e w call .answer) (rule e w call .world)
 plain e w call same c =
-    let again = sym (same (named (rule e w call .answer))) in
+    let again = sym (same (coreNamed (rule e w call .answer))) in
     record { answer-is = ap (λ (r : Result). r .answer) again; world-is = ap (λ (r : Result). r .world) again; waits-for = waits-only c }
 
 -- the rule of commit, past its refusals; where the core named by the answer is put in again, nothing changes
 again : (r : ℕ) (z b : Bool) (e : ℕ) (w : World) (c : ℕ)
-    → unlessLent r w (cond z (told w c) (cond b (waiting w e) (through w c)))
-    ≡ unlessLent r w (cond z (told w c) (cond b (waiting w (named (unlessLent r w (cond z (told w c) (cond b (waiting w e) (through w c))) .answer))) (through w c)))
-unfolding unlessLent named
+    → unlessLent r w (cond z (setBackTold w c) (cond b (waiting w e) (through w c)))
+    ≡ unlessLent r w (cond z (setBackTold w c) (cond b (waiting w (coreNamed (unlessLent r w (cond z (setBackTold w c) (cond b (waiting w e) (through w c))) .answer))) (through w c)))
+unfolding unlessLent coreNamed
 again zero true b e w c = refl
 again zero false true e w c = refl
 again zero false false e w c = refl
 again (suc r) z b e w c = refl
 
 -- one that is not blocked is not answered waits
-unblocked : (r : ℕ) (z : Bool) (w : World) (c e : ℕ) → unlessLent r w (cond z (told w c) (through w c)) .answer ≡ Waits e → ⊥
-unfolding unlessLent told through
+unblocked : (r : ℕ) (z : Bool) (w : World) (c e : ℕ) → unlessLent r w (cond z (setBackTold w c) (through w c)) .answer ≡ Waits e → ⊥
+unfolding unlessLent setBackTold through
 unblocked zero true w c e p = let z : _≡_ {A = ℕ} 0 1 = cc in omega arith
 unblocked zero false w c e p = let z : _≡_ {A = ℕ} 0 1 = cc in omega arith
 unblocked (suc n) z w c e p = let z : _≡_ {A = ℕ} 0 1 = cc in omega arith

@@ -1,5 +1,5 @@
 -- What a call that follows the rule can have done: the cases of the rule with the conditions that led to each, so that proofs
--- about runs go by these cases and never open the rule again. Assumes nothing.
+-- about runs go by these cases and never open the rule again.
 use mathlib.Core.Path.{_≡_, refl, sym, ap, ap₂, subst₂, _∙_}
 use mathlib.Core.Bool.{Bool, true, false, cond, not, _&&_, _||_, true≢false}
 use mathlib.Core.List.{List, [], _∷_}
@@ -14,14 +14,14 @@ use Rattle.core.specs.declared.Core.{Core}
 use Rattle.core.specs.declared.Answer.{Answer}
 use Rattle.core.specs.declared.Answer.the-variants.{Ready, Begun, Written, Waits, SetBack, Ended, Refused}
 use Rattle.machine.specs.declared.Outcome.{Outcome}
-use Rattle.machine.specs.Record.{coreAt, sizesInRange, blank}
+use Rattle.machine.specs.Record.{coreAt, activeAt, sizesInRange, blank}
 use Rattle.core.specs.Parts.{dataSet}
 use Rattle.machine.specs.Sound.{sound}
-use Rattle.machine.specs.Answers.{kind, named}
+use Rattle.machine.specs.Answers.{kind, coreNamed}
 use Rattle.machine.specs.Follows.{Follows}
-use Rattle.machine.specs.Rule.{World, Result, lent, withMachine, unless, unlessLent, outOfRange, misfit, newWorld, setup, unsound, wrongTables, noSuchCore, noSuchObject, fullList, jobless, inProgress, ticketsSpent, released, release, begun, begin, told, accessRefusal, valued, read, written, write, contender, blocked, through, waiting, commitRefusal, commit, ended, giveUp, finished, finish, rule, Call, Release, Begin, Read, Write, Commit, GiveUp, Finish, coreOf}
+use Rattle.machine.specs.Rule.{World, Result, lent, withMachine, unless, unlessLent, outOfRange, misfit, newWorld, setup, unsound, wrongTables, noSuchCore, noSuchObject, fullList, jobless, ticketsSpent, released, release, begun, begin, setBackTold, accessRefusal, valued, read, written, write, contender, blocked, through, waiting, commitRefusal, commit, ended, giveUp, finished, finish, rule, Call, Release, Begin, Read, Write, Commit, GiveUp, Finish, coreOf}
 use Rattle.core.specs.Calls.{first}
-use Rattle.core.specs.Life.{conflict, isStruck}
+use Rattle.core.specs.Life.{conflicting, isStruck}
 use Rattle.machine.proofs.Refusals.{passed}
 
 -- the record is sound and the core is one of the machine's
@@ -44,24 +44,24 @@ pub data Asks : Call → ℕ → Type 0 where
 
 -- core e holds a conflicting transaction with a smaller ticket than core c's
 pub contends : (m : Machine) (c e : ℕ) → contender m c e ≡ true
-    → (coreAt m e .active ≡ true) × (coreAt m e .ticket < coreAt m c .ticket) × (conflict (coreAt m c) (coreAt m e) ≡ true)
+    → (coreAt m e .active ≡ true) × (coreAt m e .ticket < coreAt m c .ticket) × (conflicting (coreAt m c) (coreAt m e) ≡ true)
 unfolding contender
 contends m c e p =
     let active = coreAt m e .active in
     let less = ltb (coreAt m e .ticket) (coreAt m c .ticket) in
-    let two : (active && less) ≡ true = both-left (active && less) (conflict (coreAt m c) (coreAt m e)) p in (
+    let two : (active && less) ≡ true = both-left (active && less) (conflicting (coreAt m c) (coreAt m e)) p in (
       both-left active less two,
       ltb-true (coreAt m e .ticket) (coreAt m c .ticket) (both-right active less two),
-      both-right (active && less) (conflict (coreAt m c) (coreAt m e)) p,
+      both-right (active && less) (conflicting (coreAt m c) (coreAt m e)) p,
     )
 
 -- one whose data set meets the write set of another conflicts with it
-pub struck-conflicts : (a b : Core) → isStruck (a .writes) b ≡ true → conflict a b ≡ true
+pub struck-conflicts : (a b : Core) → isStruck (a .writes) b ≡ true → conflicting a b ≡ true
 struck-conflicts a b hit = ap (λ (x : Bool). x || meeting (b .writes) (dataSet a)) (both-right (b .active) _ hit)
 
 -- where nobody is ahead of core c, a transaction in conflict with its own has no smaller ticket
 pub not-ahead : (m : Machine) (c e : ℕ) → blocked m c ≡ false → e < 16 → coreAt m e .active ≡ true
-    → conflict (coreAt m c) (coreAt m e) ≡ true → coreAt m c .ticket ≤ coreAt m e .ticket
+    → conflicting (coreAt m c) (coreAt m e) ≡ true → coreAt m c .ticket ≤ coreAt m e .ticket
 unfolding blocked contender
 not-ahead m c e free l active clash = go (ltb (coreAt m e .ticket) (coreAt m c .ticket)) refl
   where
@@ -76,7 +76,7 @@ pub data Case (w : World) : Call → Answer → World → Type 0 where
       (withMachine w (released (w .machine) c (record { number = number; deadline = deadline }) .machine))
   is-begun : {c : ℕ} → Core-ok (w .machine) c → (coreAt (w .machine) c .count ≡ 0 → ⊥) → coreAt (w .machine) c .active ≡ false
       → w .machine .tickets < 4294967295 → Case w (Begin c) (Begun (w .machine .tickets)) (withMachine w (begun (w .machine) c .machine))
-  is-told : {call : Call} {c : ℕ} → Asks call c → Lent-ok w c → coreAt (w .machine) c .zombie ≡ true → Case w call SetBack (told w c .world)
+  is-told : {call : Call} {c : ℕ} → Asks call c → Lent-ok w c → coreAt (w .machine) c .zombie ≡ true → Case w call SetBack (setBackTold w c .world)
   is-valued : {c d : ℕ} → Lent-ok w c → d < w .machine .objects → coreAt (w .machine) c .zombie ≡ false
       → Case w (Read c d) (valued w c d .answer) (valued w c d .world)
   is-written : {c d v : ℕ} → Lent-ok w c → d < w .machine .objects → coreAt (w .machine) c .zombie ≡ false
@@ -143,14 +143,14 @@ begin-case w c = go (first tests) refl
     m = w .machine
 
     tests : List (Bool × ℕ)
-    tests = (unsound m, 2) ∷ (noSuchCore m c, 4) ∷ (jobless m c, 7) ∷ (inProgress m c, 8) ∷ (ticketsSpent m, 10) ∷ []
+    tests = (unsound m, 2) ∷ (noSuchCore m c, 4) ∷ (jobless m c, 7) ∷ (activeAt m c, 8) ∷ (ticketsSpent m, 10) ∷ []
 
     go : (r : ℕ) → first tests ≡ r → Case w (Begin c) (unless r m (begun m c) .answer) (withMachine w (unless r m (begun m c) .machine))
     go zero e =
-        let p = passed (unsound m) 1 ((noSuchCore m c, 4) ∷ (jobless m c, 7) ∷ (inProgress m c, 8) ∷ (ticketsSpent m, 10) ∷ []) e in
-        let q = passed (noSuchCore m c) 3 ((jobless m c, 7) ∷ (inProgress m c, 8) ∷ (ticketsSpent m, 10) ∷ []) (p .1) in
-        let r = passed (jobless m c) 6 ((inProgress m c, 8) ∷ (ticketsSpent m, 10) ∷ []) (q .1) in
-        let s = passed (inProgress m c) 7 ((ticketsSpent m, 10) ∷ []) (r .1) in
+        let p = passed (unsound m) 1 ((noSuchCore m c, 4) ∷ (jobless m c, 7) ∷ (activeAt m c, 8) ∷ (ticketsSpent m, 10) ∷ []) e in
+        let q = passed (noSuchCore m c) 3 ((jobless m c, 7) ∷ (activeAt m c, 8) ∷ (ticketsSpent m, 10) ∷ []) (p .1) in
+        let r = passed (jobless m c) 6 ((activeAt m c, 8) ∷ (ticketsSpent m, 10) ∷ []) (q .1) in
+        let s = passed (activeAt m c) 7 ((ticketsSpent m, 10) ∷ []) (r .1) in
         let t = passed (ticketsSpent m) 9 [] (s .1) in
         unfold unless begun in
         is-begun (core-ok m c (p .0) (q .0)) (eqb-false (coreAt m c .count) 0 (r .0)) (s .0) (leb-false 4294967295 (m .tickets) (t .0))
@@ -164,14 +164,14 @@ give-up-case w c = go (first tests) refl
     m = w .machine
 
     tests : List (Bool × ℕ)
-    tests = (unsound m, 2) ∷ (noSuchCore m c, 4) ∷ (not (inProgress m c), 9) ∷ []
+    tests = (unsound m, 2) ∷ (noSuchCore m c, 4) ∷ (not (activeAt m c), 9) ∷ []
 
     go : (r : ℕ) → first tests ≡ r → Case w (GiveUp c) (unless r m (ended m c) .answer) (withMachine w (unless r m (ended m c) .machine))
     go zero e =
-        let p = passed (unsound m) 1 ((noSuchCore m c, 4) ∷ (not (inProgress m c), 9) ∷ []) e in
-        let q = passed (noSuchCore m c) 3 ((not (inProgress m c), 9) ∷ []) (p .1) in
-        let r = passed (not (inProgress m c)) 8 [] (q .1) in
-        unfold unless ended in is-ended (core-ok m c (p .0) (q .0)) (not-false (inProgress m c) (r .0))
+        let p = passed (unsound m) 1 ((noSuchCore m c, 4) ∷ (not (activeAt m c), 9) ∷ []) e in
+        let q = passed (noSuchCore m c) 3 ((not (activeAt m c), 9) ∷ []) (p .1) in
+        let r = passed (not (activeAt m c)) 8 [] (q .1) in
+        unfold unless ended in is-ended (core-ok m c (p .0) (q .0)) (not-false (activeAt m c) (r .0))
     go (suc n) e = unfold unless in is-refused
 
 pub finish-case : (w : World) (c : ℕ) → Case w (Finish c) (finish (w .machine) c .answer) (withMachine w (finish (w .machine) c .machine))
@@ -182,14 +182,14 @@ finish-case w c = go (first tests) refl
     m = w .machine
 
     tests : List (Bool × ℕ)
-    tests = (unsound m, 2) ∷ (noSuchCore m c, 4) ∷ (jobless m c, 7) ∷ (inProgress m c, 8) ∷ []
+    tests = (unsound m, 2) ∷ (noSuchCore m c, 4) ∷ (jobless m c, 7) ∷ (activeAt m c, 8) ∷ []
 
     go : (r : ℕ) → first tests ≡ r → Case w (Finish c) (unless r m (finished m c) .answer) (withMachine w (unless r m (finished m c) .machine))
     go zero e =
-        let p = passed (unsound m) 1 ((noSuchCore m c, 4) ∷ (jobless m c, 7) ∷ (inProgress m c, 8) ∷ []) e in
-        let q = passed (noSuchCore m c) 3 ((jobless m c, 7) ∷ (inProgress m c, 8) ∷ []) (p .1) in
-        let r = passed (jobless m c) 6 ((inProgress m c, 8) ∷ []) (q .1) in
-        let s = passed (inProgress m c) 7 [] (r .1) in
+        let p = passed (unsound m) 1 ((noSuchCore m c, 4) ∷ (jobless m c, 7) ∷ (activeAt m c, 8) ∷ []) e in
+        let q = passed (noSuchCore m c) 3 ((jobless m c, 7) ∷ (activeAt m c, 8) ∷ []) (p .1) in
+        let r = passed (jobless m c) 6 ((activeAt m c, 8) ∷ []) (q .1) in
+        let s = passed (activeAt m c) 7 [] (r .1) in
         unfold unless in is-finished (core-ok m c (p .0) (q .0)) (eqb-false (coreAt m c .count) 0 (r .0)) (s .0)
     go (suc n) e = unfold unless in is-refused
 
@@ -197,11 +197,11 @@ finish-case w c = go (first tests) refl
 access-ok : (w : World) (c d : ℕ) → accessRefusal w c d ≡ 0 → Lent-ok w c × (d < w .machine .objects)
 unfolding accessRefusal
 access-ok w c d e =
-    let p = passed (unsound m) 1 ((wrongTables w, 3) ∷ (noSuchCore m c, 4) ∷ (noSuchObject m d, 5) ∷ (not (inProgress m c), 9) ∷ []) e in
-    let q = passed (wrongTables w) 2 ((noSuchCore m c, 4) ∷ (noSuchObject m d, 5) ∷ (not (inProgress m c), 9) ∷ []) (p .1) in
-    let r = passed (noSuchCore m c) 3 ((noSuchObject m d, 5) ∷ (not (inProgress m c), 9) ∷ []) (q .1) in
-    let s = passed (noSuchObject m d) 4 ((not (inProgress m c), 9) ∷ []) (r .1) in
-    let t = passed (not (inProgress m c)) 8 [] (s .1) in
+    let p = passed (unsound m) 1 ((wrongTables w, 3) ∷ (noSuchCore m c, 4) ∷ (noSuchObject m d, 5) ∷ (not (activeAt m c), 9) ∷ []) e in
+    let q = passed (wrongTables w) 2 ((noSuchCore m c, 4) ∷ (noSuchObject m d, 5) ∷ (not (activeAt m c), 9) ∷ []) (p .1) in
+    let r = passed (noSuchCore m c) 3 ((noSuchObject m d, 5) ∷ (not (activeAt m c), 9) ∷ []) (q .1) in
+    let s = passed (noSuchObject m d) 4 ((not (activeAt m c), 9) ∷ []) (r .1) in
+    let t = passed (not (activeAt m c)) 8 [] (s .1) in
     (lent-ok w c (core-ok m c (p .0) (r .0)) (q .0) (t .0), ltb-true d (m .objects) (not-false (ltb d (m .objects)) (s .0)))
   where
     m : Machine
@@ -212,8 +212,8 @@ unfolding read
 read-case w c d = go (accessRefusal w c d) refl (coreAt (w .machine) c .zombie) refl
   where
     go : (r : ℕ) → accessRefusal w c d ≡ r → (z : Bool) → coreAt (w .machine) c .zombie ≡ z
-        → Case w (Read c d) (unlessLent r w (cond z (told w c) (valued w c d)) .answer) (unlessLent r w (cond z (told w c) (valued w c d)) .world)
-    go zero e true z = unfold unlessLent told in is-told asks-read (access-ok w c d e .0) z
+        → Case w (Read c d) (unlessLent r w (cond z (setBackTold w c) (valued w c d)) .answer) (unlessLent r w (cond z (setBackTold w c) (valued w c d)) .world)
+    go zero e true z = unfold unlessLent setBackTold in is-told asks-read (access-ok w c d e .0) z
     go zero e false z = let ok = access-ok w c d e in unfold unlessLent in is-valued (ok .0) (ok .1) z
     go (suc n) e z t = unfold unlessLent in is-refused
 
@@ -222,8 +222,8 @@ unfolding write
 write-case w c d v = go (accessRefusal w c d) refl (coreAt (w .machine) c .zombie) refl
   where
     go : (r : ℕ) → accessRefusal w c d ≡ r → (z : Bool) → coreAt (w .machine) c .zombie ≡ z
-        → Case w (Write c d v) (unlessLent r w (cond z (told w c) (written w c d v)) .answer) (unlessLent r w (cond z (told w c) (written w c d v)) .world)
-    go zero e true z = unfold unlessLent told in is-told asks-write (access-ok w c d e .0) z
+        → Case w (Write c d v) (unlessLent r w (cond z (setBackTold w c) (written w c d v)) .answer) (unlessLent r w (cond z (setBackTold w c) (written w c d v)) .world)
+    go zero e true z = unfold unlessLent setBackTold in is-told asks-write (access-ok w c d e .0) z
     go zero e false z = let ok = access-ok w c d e in unfold unlessLent written in is-written (ok .0) (ok .1) z
     go (suc n) e z t = unfold unlessLent in is-refused
 
@@ -231,10 +231,10 @@ write-case w c d v = go (accessRefusal w c d) refl (coreAt (w .machine) c .zombi
 commit-ok : (w : World) (c : ℕ) → commitRefusal w c ≡ 0 → Lent-ok w c
 unfolding commitRefusal
 commit-ok w c e =
-    let p = passed (unsound m) 1 ((wrongTables w, 3) ∷ (noSuchCore m c, 4) ∷ (not (inProgress m c), 9) ∷ []) e in
-    let q = passed (wrongTables w) 2 ((noSuchCore m c, 4) ∷ (not (inProgress m c), 9) ∷ []) (p .1) in
-    let r = passed (noSuchCore m c) 3 ((not (inProgress m c), 9) ∷ []) (q .1) in
-    let s = passed (not (inProgress m c)) 8 [] (r .1) in
+    let p = passed (unsound m) 1 ((wrongTables w, 3) ∷ (noSuchCore m c, 4) ∷ (not (activeAt m c), 9) ∷ []) e in
+    let q = passed (wrongTables w) 2 ((noSuchCore m c, 4) ∷ (not (activeAt m c), 9) ∷ []) (p .1) in
+    let r = passed (noSuchCore m c) 3 ((not (activeAt m c), 9) ∷ []) (q .1) in
+    let s = passed (not (activeAt m c)) 8 [] (r .1) in
     lent-ok w c (core-ok m c (p .0) (r .0)) (q .0) (s .0)
   where
     m : Machine
@@ -250,11 +250,11 @@ commit-case w c e = go (commitRefusal w c) refl (coreAt m c .zombie) refl (block
     m = w .machine
 
     done : ℕ → Bool → Bool → Result
-    done r z b = unlessLent r w (cond z (told w c) (cond b (waiting w e) (through w c)))
+    done r z b = unlessLent r w (cond z (setBackTold w c) (cond b (waiting w e) (through w c)))
 
     go : (r : ℕ) → commitRefusal w c ≡ r → (z : Bool) → coreAt m c .zombie ≡ z → (b : Bool) → blocked m c ≡ b
         → (done r z b .answer ≡ Waits e → contender m c e ≡ true) → Case w (Commit c) (done r z b .answer) (done r z b .world)
-    go zero t true z b u waits = unfold unlessLent told in is-told asks-commit (commit-ok w c t) z
+    go zero t true z b u waits = unfold unlessLent setBackTold in is-told asks-commit (commit-ok w c t) z
     go zero t false z true u waits = unfold unlessLent in is-waiting (commit-ok w c t) z (waits refl)
     go zero t false z false u waits = unfold unlessLent in is-through (commit-ok w c t) z u
     go (suc n) t z y b u waits = unfold unlessLent in is-refused
@@ -263,7 +263,7 @@ commit-case w c e = go (commitRefusal w c) refl (coreAt m c .zombie) refl (block
 pub case-of : {w : World} {call : Call} {a : Answer} {w′ : World} → Follows w call a w′ → Case w call a w′
 unfolding rule
 case-of {w} {call} {a} {w′} f =
-    subst₂ (λ (b : Answer) (v : World). Case w call b v) (sym (f .answer-is)) (sym (f .world-is)) (go call (named a) (λ e. f .waits-for (named a) (f .answer-is ∙ e)))
+    subst₂ (λ (b : Answer) (v : World). Case w call b v) (sym (f .answer-is)) (sym (f .world-is)) (go call (coreNamed a) (λ e. f .waits-for (coreNamed a) (f .answer-is ∙ e)))
   where
     go : (x : Call) (e : ℕ) → (rule e w x .answer ≡ Waits e → contender (w .machine) (coreOf x) e ≡ true) → Case w x (rule e w x .answer) (rule e w x .world)
     go (Release c number deadline) e waits = release-case w c number deadline

@@ -1,4 +1,4 @@
--- The laws of commit, over plain variables: where its loop over the objects stands, who is ahead, and what it gives. Assumes nothing.
+-- The laws of commit, over plain variables: where its loop over the objects stands, who is ahead, and what it gives.
 use mathlib.Core.Path.{_≡_, refl, sym, ap, ap₂, subst, _∙_}
 use mathlib.Core.Bool.{Bool, true, false, cond, not, _&&_, _||_, true≢false}
 use mathlib.Core.List.{List}
@@ -24,10 +24,10 @@ use Rattle.machine.specs.declared.Machine.{Machine}
 use Rattle.machine.specs.declared.inside.calls.Found.{Found}
 use Rattle.machine.specs.Record.{coreAt, putCore}
 use Rattle.machine.specs.Sound.{sound}
-use Rattle.machine.specs.Answers.{kind, named}
-use Rattle.machine.specs.Inside.{Fine}
-use Rattle.machine.specs.Rule.{World, Result, withMachine, unlessLent, wrongTables, told, contender, blocked, changed, moved, through, waiting, commitRefusal, commit}
-use Rattle.machine.specs.OneCore.{found, firstHolding, settled}
+use Rattle.machine.specs.Answers.{kind, coreNamed}
+use Rattle.machine.specs.Inside.{SoundWorld}
+use Rattle.machine.specs.Rule.{World, Result, withMachine, unlessLent, wrongTables, setBackTold, contender, blocked, changed, moved, through, waiting, commitRefusal, commit}
+use Rattle.machine.specs.OneCore.{found, firstHolding, carriedOut}
 use Rattle.machine.proofs.Entries.{put-each, changed-at, changed-long}
 use Rattle.machine.proofs.Facts.{stands, core-place, one-open}
 use Rattle.machine.proofs.CallLaws.{is-sound, a-core, no-core, refused-lent, accepted-lent}
@@ -176,9 +176,9 @@ module _ (w : World) (c : ℕ) (s : sound (w .machine) ≡ true) (committed-fits
           (skips _ _ _ (is-sound (w .machine) s)
           (skips _ _ _ fit (skips _ _ _ (a-core (w .machine) c h) (skips _ _ _ (ap not on) none-holds))))
 
-      pub commit-told : (e : ℕ) → coreAt (w .machine) c .zombie ≡ true → told w c ≡ commit e w c
+      pub commit-told : (e : ℕ) → coreAt (w .machine) c .zombie ≡ true → setBackTold w c ≡ commit e w c
       unfolding commit
-      commit-told e z = rw z (taken (told w c))
+      commit-told e z = rw z (taken (setBackTold w c))
 
       module _ (z : coreAt (w .machine) c .zombie ≡ false) where
         pub commit-waits : (e : ℕ) → blocked (w .machine) c ≡ true → waiting w e ≡ commit e w c
@@ -199,7 +199,7 @@ module _ (w : World) where
   no-more n = omega arith
 
   -- it does not go through: the empty write set changes nothing but the core
-  settle-stays : (c : ℕ) (k : Core) (a : Answer) → settled w c (stays k a) ≡ record { answer = a; world = withMachine w (putCore m c k) }
+  settle-stays : (c : ℕ) (k : Core) (a : Answer) → carriedOut w c (stays k a) ≡ record { answer = a; world = withMachine w (putCore m c k) }
   settle-stays c k a =
       rw (
         strikes-none (set (m .core) c k),
@@ -209,7 +209,7 @@ module _ (w : World) where
       )
       refl
 
-  settle-same : (c : ℕ) (a : Answer) → settled w c (stays (coreAt m c) a) ≡ record { answer = a; world = w }
+  settle-same : (c : ℕ) (a : Answer) → carriedOut w c (stays (coreAt m c) a) ≡ record { answer = a; world = w }
   settle-same c a =
       settle-stays c (coreAt m c) a
       ∙ ap
@@ -223,14 +223,14 @@ module _ (w : World) where
       (set-getD (m .core) c noCore)
 
   -- it goes through
-  settle-passes : (c : ℕ) → c < length (m .core) → settled w c (passes (coreAt m c)) ≡ through w c
+  settle-passes : (c : ℕ) → c < length (m .core) → carriedOut w c (passes (coreAt m c)) ≡ through w c
   unfolding through
   settle-passes c l = rw (strikes-cleared (coreAt m c .writes) c (m .core) l) refl
 
-  module _ (f : Fine w) (long : length (m .core) ≡ 16) (c : ℕ) where
+  module _ (f : SoundWorld w) (long : length (m .core) ≡ 16) (c : ℕ) where
     -- by the rule, and the core that waits names is one that may be named
     Settles : ℕ → Settled → Type 0
-    Settles at r = (settled w at r ≡ commit (named (r .answer)) w c) × ((e : ℕ) → r .answer ≡ Waits e → contender m c e ≡ true)
+    Settles at r = (carriedOut w at r ≡ commit (coreNamed (r .answer)) w c) × ((e : ℕ) → r .answer ≡ Waits e → contender m c e ≡ true)
 
     -- an answer of another kind names no core
     kinds-differ : (a : Answer) (n : ℕ) → kind a ≡ n → (n ≡ 6 → ⊥) → (e : ℕ) → a ≡ Waits e → contender m c e ≡ true
@@ -238,8 +238,8 @@ module _ (w : World) where
     kinds-differ a n is h e p = absurd (h (sym is ∙ ap kind p))
 
     same-core : (b e : ℕ) → Waits b ≡ Waits e → b ≡ e
-    unfolding named
-    same-core b e p = ap named p
+    unfolding coreNamed
+    same-core b e p = ap coreNamed p
 
     module _ (h : c < m .cores) where
       ahead : ℕ
@@ -260,13 +260,13 @@ module _ (w : World) where
       on-core false z q off mark test =
           (settle-same c (Refused 9) ∙ commit-none w c (f .is-sound) (f .committed-long) (f .pending-long) h _ off, kinds-differ _ 11 (unfold kind in refl) (λ x. omega arith))
       on-core true true q on mark test = (
-        settle-stays c (unmarked (coreAt m c)) SetBack ∙ unfold told in commit-told w c (f .is-sound) (f .committed-long) (f .pending-long) h on _ mark,
+        settle-stays c (unmarked (coreAt m c)) SetBack ∙ unfold setBackTold in commit-told w c (f .is-sound) (f .committed-long) (f .pending-long) h on _ mark,
         kinds-differ _ 8 (unfold kind in refl) (λ x. omega arith),
       )
       on-core true false true on mark test =
           let there = held (ltb-true _ _ test) in (
             settle-same c (Waits ahead)
-                ∙ unfold named in commit-waits w c (f .is-sound) (f .committed-long) (f .pending-long) h on mark ahead (someone-ahead m c ahead (ltb-true _ _ test) there),
+                ∙ unfold coreNamed in commit-waits w c (f .is-sound) (f .committed-long) (f .pending-long) h on mark ahead (someone-ahead m c ahead (ltb-true _ _ test) there),
             λ e p. subst (λ (x : ℕ). contender m c x ≡ true) (same-core ahead e p) there,
           )
       on-core true false false on mark test = (
@@ -280,14 +280,14 @@ module _ (w : World) where
     settledAt to = commitOn (to .refusal) (coreAt m (to .core)) (firstHolding (m .core) (coreAt m (to .core)))
 
     pub by-commit : let to : Found = found c 0 (m .cores) (m .objects) in
-        (settled w (to .core) (settledAt to) ≡ commit (named (settledAt to .answer)) w c)
+        (carriedOut w (to .core) (settledAt to) ≡ commit (coreNamed (settledAt to .answer)) w c)
         × ((e : ℕ) → settledAt to .answer ≡ Waits e → contender m c e ≡ true)
     unfolding found commitOn
     by-commit = go (ltb c (m .cores)) refl (ltb 0 (m .objects)) refl
       where
         go : (p : Bool) → ltb c (m .cores) ≡ p → (q : Bool) → ltb 0 (m .objects) ≡ q
             → let to : Found = cond p (cond q (record { core = c; object = 0; refusal = 0 }) (record { core = 0; object = 0; refusal = 5 })) (record { core = 0; object = 0; refusal = 4 }) in
-            (settled w (to .core) (settledAt to) ≡ commit (named (settledAt to .answer)) w c)
+            (carriedOut w (to .core) (settledAt to) ≡ commit (coreNamed (settledAt to .answer)) w c)
             × ((e : ℕ) → settledAt to .answer ≡ Waits e → contender m c e ≡ true)
         go true h true l = unfold Settles ahead in on-core (ltb-true _ _ h) (coreAt m c .active) (coreAt m c .zombie) (ltb (ahead (ltb-true _ _ h)) 16) refl refl refl
         go true h false l = absurd (omega (arith, ltb-false 0 (m .objects) l, stands m (f .is-sound) .some-objects))
@@ -299,10 +299,10 @@ module _ (w : World) where
     -- the same, of what code found and got
     pub by-commit-at : (to : Found) (e : ℕ) (r : Settled) → to ≡ found c 0 (m .cores) (m .objects)
         → e ≡ firstHolding (m .core) (coreAt m (to .core)) → r ≡ commitOn (to .refusal) (coreAt m (to .core)) e
-        → (settled w (to .core) r ≡ commit (named (r .answer)) w c) × ((e : ℕ) → r .answer ≡ Waits e → contender m c e ≡ true)
+        → (carriedOut w (to .core) r ≡ commit (coreNamed (r .answer)) w c) × ((e : ℕ) → r .answer ≡ Waits e → contender m c e ≡ true)
     by-commit-at to e r p q h =
-        subst (λ (x : Settled). (settled w (to .core) x ≡ commit (named (x .answer)) w c) × ((e : ℕ) → x .answer ≡ Waits e → contender m c e ≡ true))
+        subst (λ (x : Settled). (carriedOut w (to .core) x ≡ commit (coreNamed (x .answer)) w c) × ((e : ℕ) → x .answer ≡ Waits e → contender m c e ≡ true))
         (sym (h ∙ ap (commitOn (to .refusal) (coreAt m (to .core))) q))
         (subst
-        (λ (x : Found). (settled w (x .core) (settledAt x) ≡ commit (named (settledAt x .answer)) w c) × ((e : ℕ) → settledAt x .answer ≡ Waits e → contender m c e ≡ true))
+        (λ (x : Found). (carriedOut w (x .core) (settledAt x) ≡ commit (coreNamed (settledAt x .answer)) w c) × ((e : ℕ) → settledAt x .answer ≡ Waits e → contender m c e ≡ true))
         (sym p) by-commit)

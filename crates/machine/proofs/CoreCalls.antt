@@ -1,4 +1,4 @@
--- What a call gives on the core that it takes out, put back, is what the rule gives. Assumes nothing.
+-- What a call gives on the core that it takes out, put back, is what the rule gives.
 use mathlib.Core.Path.{_≡_, refl, sym, ap, ap₂, subst, _∙_}
 use mathlib.Core.Bool.{Bool, true, false, cond, _&&_, and-false}
 use mathlib.Core.List.{List, [], _∷_}
@@ -24,9 +24,9 @@ use Rattle.machine.specs.declared.Outcome.{Outcome}
 use Rattle.machine.specs.declared.inside.calls.Found.{Found}
 use Rattle.machine.specs.Record.{coreAt}
 use Rattle.machine.specs.Sound.{sound}
-use Rattle.machine.specs.Inside.{Fine}
+use Rattle.machine.specs.Inside.{SoundWorld}
 use Rattle.machine.specs.Refusals.{refusals, at}
-use Rattle.machine.specs.Rule.{World, Result, lent, unless, unlessLent, unlent, released, release, begun, begin, told, valued, valueRead, read, written, write, slot, accessRefusal, ended, giveUp, finished, finish, rule, Call, coreOf, Release, Begin, Read, Write, GiveUp, Finish}
+use Rattle.machine.specs.Rule.{World, Result, lent, unless, unlessLent, unlent, released, release, begun, begin, setBackTold, valued, valueRead, read, written, write, slot, accessRefusal, ended, giveUp, finished, finish, rule, Call, coreOf, Release, Begin, Read, Write, GiveUp, Finish}
 use Rattle.machine.specs.OneCore.{callOf, found, seen, given}
 use Rattle.machine.proofs.Facts.{stands, core-place, object-place, few-jobs, one-open}
 use Rattle.machine.proofs.Run.Places.{slot-inside}
@@ -38,7 +38,7 @@ module _ (w : World) where
   m = w .machine
 
   -- what was taken out and put back as it was changes nothing
-  put-same : (c d : ℕ) (a : Answer) → given w c d (Core.left (coreAt m c) (seen w c d) a) ≡ record { answer = a; world = w }
+  put-same : (c d : ℕ) (a : Answer) → given w c d (Core.leftOn (coreAt m c) (seen w c d) a) ≡ record { answer = a; world = w }
   put-same c d a =
       ap₂
       (λ (cores : List Core) (words : List ℕ).
@@ -59,8 +59,8 @@ module _ (w : World) where
 
   -- refused and accepted alike
   given-unless : (c d n : ℕ) (r : Acted) (x : Result) → given w c d r ≡ x
-      → given w c d (Core.unless n (coreAt m c) (seen w c d) r) ≡ unlessLent n w x
-  unfolding Core.unless unlessLent
+      → given w c d (Core.unlessOn n (coreAt m c) (seen w c d) r) ≡ unlessLent n w x
+  unfolding Core.unlessOn unlessLent
   given-unless c d zero r x e = e
   given-unless c d (suc n) r x e = put-same c d (Refused (suc n))
 
@@ -73,10 +73,10 @@ module _ (w : World) where
   unlent-unless zero o = refl
   unlent-unless (suc n) o = refl
 
-  module _ (f : Fine w) (c : ℕ) (h : c < m .cores) (d : ℕ) where
+  module _ (f : SoundWorld w) (c : ℕ) (h : c < m .cores) (d : ℕ) where
     -- a call that is lent no table: past the refusals of the whole record
     alone : (n r : ℕ) (acted : Acted) (o : Outcome) → r ≡ n → given w c d acted ≡ unlent w o
-        → given w c d (Core.unless n (coreAt m c) (seen w c d) acted) ≡ unlent w (unless r m o)
+        → given w c d (Core.unlessOn n (coreAt m c) (seen w c d) acted) ≡ unlent w (unless r m o)
     alone n r acted o e same =
         given-unless c d n acted (unlent w o) same ∙ unlent-unless n o ∙ ap (λ (x : ℕ). unlent w (unless x m o)) (sym e)
 
@@ -100,15 +100,15 @@ module _ (w : World) where
     module _ (l : d < m .objects) where
       -- a read or a write: past the refusals of the whole record
       access : (acted : Acted) (x : Result) → given w c d acted ≡ x
-          → given w c d (Core.unless (first ((Core.inactive (coreAt m c), 9) ∷ [])) (coreAt m c) (seen w c d) acted) ≡ unlessLent (accessRefusal w c d) w x
+          → given w c d (Core.unlessOn (first ((Core.inactive (coreAt m c), 9) ∷ [])) (coreAt m c) (seen w c d) acted) ≡ unlessLent (accessRefusal w c d) w x
       unfolding accessRefusal
       access acted x e =
           given-unless c d _ acted x e
           ∙ ap (λ (n : ℕ). unlessLent n w x)
           (sym (skips _ _ _ (is-sound m (f .is-sound)) (skips _ _ _ (tables-fit w f) (skips _ _ _ (a-core m c h) (skips _ _ _ (an-object m d l) refl)))))
 
-      told-given : given w c d (Core.told (coreAt m c) (seen w c d)) ≡ told w c
-      unfolding told
+      told-given : given w c d (Core.setBackOn (coreAt m c) (seen w c d)) ≡ setBackTold w c
+      unfolding setBackTold
       told-given = put-word c d _ _
 
       read-given : given w c d (readOn (coreAt m c) (seen w c d) d) ≡ rule 0 w (Read c d)
@@ -121,7 +121,7 @@ module _ (w : World) where
 
   -- ---- each of the six, where the core and the card are found
 
-  found-given : Fine w → (a : Act) (c : ℕ) → c < m .cores → objectOf a < m .objects
+  found-given : SoundWorld w → (a : Act) (c : ℕ) → c < m .cores → objectOf a < m .objects
       → given w c (objectOf a) (taken a (coreAt m c) (seen w c (objectOf a))) ≡ rule 0 w (callOf a c)
   unfolding taken
   found-given f (Act.Release number deadline) c h l = release-given f c h 0 number deadline
@@ -142,7 +142,7 @@ module _ (w : World) where
   core-of Act.Finish c = refl
 
   -- 4
-  nowhere : Fine w → (call : Call) → m .cores ≤ coreOf call → record { answer = Refused 4; world = w } ≡ rule 0 w call
+  nowhere : SoundWorld w → (call : Call) → m .cores ≤ coreOf call → record { answer = Refused 4; world = w } ≡ rule 0 w call
   unfolding refusals
   nowhere f call h =
       refused-with 0 w call 3
@@ -151,7 +151,7 @@ module _ (w : World) where
       (hits _ _ _ (no-core m (coreOf call) h))))
 
   -- 5: a call that names a card
-  no-card : Fine w → (a : Act) (c : ℕ) → c < m .cores → m .objects ≤ objectOf a → record { answer = Refused 5; world = w } ≡ rule 0 w (callOf a c)
+  no-card : SoundWorld w → (a : Act) (c : ℕ) → c < m .cores → m .objects ≤ objectOf a → record { answer = Refused 5; world = w } ≡ rule 0 w (callOf a c)
   unfolding refusals
   no-card f (Act.Read d) c h l =
       refused-with 0 w (Read c d) 4
@@ -170,9 +170,9 @@ module _ (w : World) where
   abbrev pub onFound : Act → Found → Acted
   onFound a to = actOn (to .refusal) a (coreAt m (to .core)) (seen w (to .core) (to .object))
 
-  pub by-core : Fine w → (a : Act) (c : ℕ) → let to : Found = found c (objectOf a) (m .cores) (m .objects) in
+  pub by-core : SoundWorld w → (a : Act) (c : ℕ) → let to : Found = found c (objectOf a) (m .cores) (m .objects) in
       given w (to .core) (to .object) (onFound a to) ≡ rule 0 w (callOf a c)
-  unfolding found actOn Core.unless
+  unfolding found actOn Core.unlessOn
   by-core f a c = go (ltb c (m .cores)) refl (ltb (objectOf a) (m .objects)) refl
     where
       go : (p : Bool) → ltb c (m .cores) ≡ p → (q : Bool) → ltb (objectOf a) (m .objects) ≡ q
@@ -185,7 +185,7 @@ module _ (w : World) where
           ∙ nowhere f (callOf a c) (subst (λ (x : ℕ). m .cores ≤ x) (sym (core-of a c)) (ltb-false _ _ h))
 
   -- the same, of what code found, saw and got
-  pub by-core-at : Fine w → (a : Act) (c d : ℕ) (to : Found) (s : Seen) (r : Acted) → d ≡ objectOf a → to ≡ found c d (m .cores) (m .objects)
+  pub by-core-at : SoundWorld w → (a : Act) (c d : ℕ) (to : Found) (s : Seen) (r : Acted) → d ≡ objectOf a → to ≡ found c d (m .cores) (m .objects)
       → s ≡ seen w (to .core) (to .object) → r ≡ actOn (to .refusal) a (coreAt m (to .core)) s
       → given w (to .core) (to .object) r ≡ rule 0 w (callOf a c)
   by-core-at f a c d to s r p q e h =

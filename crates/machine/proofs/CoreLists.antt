@@ -1,4 +1,4 @@
--- Lists of cores: who is the first that holds a transaction back, and the cores after a commit. Assumes nothing.
+-- Lists of cores: who is the first that holds a transaction back, and the cores after a commit.
 use mathlib.Core.Path.{_≡_, refl, sym, ap, ap₂, _∙_}
 use mathlib.Core.Bool.{Bool, true, false, cond, _&&_, and-false}
 use mathlib.Core.List.{List, [], _∷_}
@@ -13,10 +13,10 @@ use Rattle.objset.proofs.Digits.{has-zero}
 use Rattle.objset.proofs.Laws.{none-zero, none-meeting}
 use Rattle.core.specs.declared.Core.{Core}
 use Rattle.core.specs.Parts.{noCore, dataSet}
-use Rattle.core.specs.Life.{holdsBack, isStruck, aborted, struck, over}
+use Rattle.core.specs.Life.{holdsBack, isStruck, aborted, struckBy, over}
 use Rattle.core.proofs.LifeLaws.{struck-hit, struck-missed, struck-idle}
 use Rattle.machine.specs.Rule.{cleared, changed}
-use Rattle.machine.specs.OneCore.{firstFrom, firstHolding, strikes}
+use Rattle.machine.specs.OneCore.{firstFrom, firstHolding, struckAll}
 use Rattle.machine.proofs.Front.{Stands, stands-next, stands-stored, stands-kept, stands-all}
 
 -- ---- the first that holds a transaction back
@@ -84,24 +84,24 @@ module _ (k : Core) where
 
 -- ---- the cores after a commit
 
-pub strikes-long : (ws : ℕ) (cores : List Core) → length (strikes ws cores) ≡ length cores
-unfolding strikes
+pub strikes-long : (ws : ℕ) (cores : List Core) → length (struckAll ws cores) ≡ length cores
+unfolding struckAll
 strikes-long ws [] = refl
 strikes-long ws (k ∷ ks) = ap suc (strikes-long ws ks)
 
-pub strikes-at : (ws : ℕ) (cores : List Core) (e : ℕ) → e < length cores → getD (strikes ws cores) e noCore ≡ struck ws (getD cores e noCore)
-unfolding strikes
+pub strikes-at : (ws : ℕ) (cores : List Core) (e : ℕ) → e < length cores → getD (struckAll ws cores) e noCore ≡ struckBy ws (getD cores e noCore)
+unfolding struckAll
 strikes-at ws [] e l = absurd (omega arith)
 strikes-at ws (k ∷ ks) zero l = refl
 strikes-at ws (k ∷ ks) (suc e) l = strikes-at ws ks e (omega arith)
 
 -- the empty write set strikes nobody and changes nothing
-nobody-struck : (k : Core) → k ≡ struck 0 k
+nobody-struck : (k : Core) → k ≡ struckBy 0 k
 nobody-struck k =
     struck-missed 0 k (ap (λ (b : Bool). k .active && b) (ap (λ (s : ℕ). meeting s (dataSet k)) (sym none-zero) ∙ none-meeting (dataSet k)) ∙ and-false (k .active))
 
-pub strikes-none : (cores : List Core) → strikes 0 cores ≡ cores
-unfolding strikes
+pub strikes-none : (cores : List Core) → struckAll 0 cores ≡ cores
+unfolding struckAll
 strikes-none [] = refl
 strikes-none (k ∷ ks) = ap₂ (λ (x : Core) (xs : List Core). x ∷ xs) (sym (nobody-struck k)) (strikes-none ks)
 
@@ -110,59 +110,59 @@ unfolding changed
 changed-none f i [] = refl
 changed-none f i (x ∷ xs) = ap₂ (λ (y : ℕ) (ys : List ℕ). y ∷ ys) (rw (has-zero i) refl) (changed-none f (suc i) xs)
 
--- past core c every core is by `struck`
-struck-past : (ws c i : ℕ) (cores : List Core) → c < i → cleared ws c i cores ≡ strikes ws cores
-unfolding cleared strikes
+-- past core c every core is by `struckBy`
+struck-past : (ws c i : ℕ) (cores : List Core) → c < i → cleared ws c i cores ≡ struckAll ws cores
+unfolding cleared struckAll
 struck-past ws c i [] h = refl
 struck-past ws c i (k ∷ ks) h =
-    rw (ne-eqb i c (λ e. omega arith)) (ap (λ (xs : List Core). struck ws k ∷ xs) (struck-past ws c (suc i) ks (omega arith)))
+    rw (ne-eqb i c (λ e. omega arith)) (ap (λ (xs : List Core). struckBy ws k ∷ xs) (struck-past ws c (suc i) ks (omega arith)))
 
 struck-from : (ws c i : ℕ) (cores : List Core) (e : ℕ) → i + e ≡ c → e < length cores
-    → strikes ws (set cores e (over (getD cores e noCore))) ≡ cleared ws c i cores
-unfolding cleared strikes
+    → struckAll ws (set cores e (over (getD cores e noCore))) ≡ cleared ws c i cores
+unfolding cleared struckAll
 struck-from ws c i [] e h l = absurd (omega arith)
 struck-from ws c i (k ∷ ks) zero h l =
     let here : i ≡ c = omega arith in
     rw (eq-eqb i c here) (ap₂ (λ (x : Core) (xs : List Core). x ∷ xs) (sym (struck-idle ws (over k) refl)) (sym (struck-past ws c (suc i) ks (omega arith))))
 struck-from ws c i (k ∷ ks) (suc e) h l =
     rw (ne-eqb i c (λ p. omega arith))
-    (ap (λ (xs : List Core). struck ws k ∷ xs) (struck-from ws c (suc i) ks e (omega arith) (omega arith)))
+    (ap (λ (xs : List Core). struckBy ws k ∷ xs) (struck-from ws c (suc i) ks e (omega arith) (omega arith)))
 
--- the transaction of core c over, and every other by `struck`
+-- the transaction of core c over, and every other by `struckBy`
 pub strikes-cleared : (ws c : ℕ) (cores : List Core) → c < length cores
-    → strikes ws (set cores c (over (getD cores c noCore))) ≡ cleared ws c 0 cores
+    → struckAll ws (set cores c (over (getD cores c noCore))) ≡ cleared ws c 0 cores
 strikes-cleared ws c cores l = struck-from ws c 0 cores c (omega arith) l
 
 -- ---- the loop that strikes them, one core after another
 
 module _ (ws : ℕ) (old : List Core) where
-  module _ (e : ℕ) (now : List Core) (at : Stands e (strikes ws old) old now) (l : e < length old) where
+  module _ (e : ℕ) (now : List Core) (at : Stands e (struckAll ws old) old now) (l : e < length old) where
     -- the core whose turn it is is as it was
     pub strikes-next : getD now e noCore ≡ getD old e noCore
-    strikes-next = stands-next (strikes ws old) old (strikes-long ws old) e now noCore at l
+    strikes-next = stands-next (struckAll ws old) old (strikes-long ws old) e now noCore at l
 
     pub strikes-hit : (next : List Core) → isStruck ws (getD now e noCore) ≡ true → next ≡ set now e (aborted (getD now e noCore))
-        → Stands (e + 1) (strikes ws old) old next
+        → Stands (e + 1) (struckAll ws old) old next
     strikes-hit next h =
-        stands-stored (strikes ws old) old (strikes-long ws old) e now next noCore _ at l
-        (struck-hit ws (getD now e noCore) h ∙ ap (struck ws) strikes-next ∙ sym (strikes-at ws old e l))
+        stands-stored (struckAll ws old) old (strikes-long ws old) e now next noCore _ at l
+        (struck-hit ws (getD now e noCore) h ∙ ap (struckBy ws) strikes-next ∙ sym (strikes-at ws old e l))
 
-    pub strikes-missed : (next : List Core) → isStruck ws (getD now e noCore) ≡ false → next ≡ now → Stands (e + 1) (strikes ws old) old next
+    pub strikes-missed : (next : List Core) → isStruck ws (getD now e noCore) ≡ false → next ≡ now → Stands (e + 1) (struckAll ws old) old next
     strikes-missed next h =
-        stands-kept (strikes ws old) old (strikes-long ws old) e now next noCore at l
-        (sym strikes-next ∙ struck-missed ws (getD now e noCore) h ∙ ap (struck ws) strikes-next ∙ sym (strikes-at ws old e l))
+        stands-kept (struckAll ws old) old (strikes-long ws old) e now next noCore at l
+        (sym strikes-next ∙ struck-missed ws (getD now e noCore) h ∙ ap (struckBy ws) strikes-next ∙ sym (strikes-at ws old e l))
 
   -- the end is reached
-  pub strikes-done : (n : ℕ) (now : List Core) → Stands n (strikes ws old) old now → length old ≤ n → now ≡ strikes ws old
+  pub strikes-done : (n : ℕ) (now : List Core) → Stands n (struckAll ws old) old now → length old ≤ n → now ≡ struckAll ws old
   strikes-done n now at h =
-      stands-all (strikes ws old) old (strikes-long ws old) n now noCore at (λ e l p. absurd (omega arith))
+      stands-all (struckAll ws old) old (strikes-long ws old) n now noCore at (λ e l p. absurd (omega arith))
 
   -- as far as the loop has to go: nowhere, where the write set is empty
-  pub strikes-reached : (e : ℕ) (now : List Core) → Stands e (strikes ws old) old now → length old ≡ 16 → cond (eqb ws 0) 0 16 ≤ e → now ≡ strikes ws old
+  pub strikes-reached : (e : ℕ) (now : List Core) → Stands e (struckAll ws old) old now → length old ≡ 16 → cond (eqb ws 0) 0 16 ≤ e → now ≡ struckAll ws old
   strikes-reached e now at long = go (eqb ws 0) refl
     where
-      go : (b : Bool) → eqb ws 0 ≡ b → cond b 0 16 ≤ e → now ≡ strikes ws old
+      go : (b : Bool) → eqb ws 0 ≡ b → cond b 0 16 ≤ e → now ≡ struckAll ws old
       go true t l =
-          stands-all (strikes ws old) old (strikes-long ws old) e now noCore at
-          (λ i h p. ap (λ (xs : List Core). getD xs i noCore) (sym (ap (λ (x : ℕ). strikes x old) (eqb-true ws 0 t) ∙ strikes-none old)))
+          stands-all (struckAll ws old) old (strikes-long ws old) e now noCore at
+          (λ i h p. ap (λ (xs : List Core). getD xs i noCore) (sym (ap (λ (x : ℕ). struckAll x old) (eqb-true ws 0 t) ∙ strikes-none old)))
       go false t l = strikes-done e now at (omega (arith, long))

@@ -1,4 +1,4 @@
--- The refusals of the public calls that the inside functions do not know: 2 and 3, and setup's. Assumes nothing.
+-- The refusals of the public calls that the inside functions do not know: 2 and 3, and setup's.
 use mathlib.Core.Path.{_≡_, ap, ap₂, _∙_}
 use mathlib.Core.Bool.{Bool, true, false, not, _&&_}
 use mathlib.Core.List.{List}
@@ -11,7 +11,7 @@ use Rattle.objset.proofs.Laws.{both-left, both-right}
 use Rattle.core.specs.declared.Answer.the-variants.{Refused, Ready, Waits}
 use Rattle.machine.specs.Record.{blank, machineOf, sizesInRange}
 use Rattle.machine.specs.Sound.{sound}
-use Rattle.machine.specs.Inside.{Fine}
+use Rattle.machine.specs.Inside.{SoundWorld}
 use Rattle.machine.specs.Rule.{World, lent, setup, rule, Call}
 use Rattle.machine.specs.Refusals.{at, refusals}
 use Rattle.machine.proofs.Refusals.{refused-with}
@@ -34,7 +34,7 @@ refused-not-waits n e p = let z : _≡_ {A = ℕ} 0 1 = cc in omega arith
 abbrev bothFit : World → Bool
 bothFit w = eqb (length (w .committed)) (w .machine .objects) && eqb (length (w .pending)) (w .machine .cores * w .machine .objects)
 
-pub fine-of : (w : World) → sound (w .machine) ≡ true → bothFit w ≡ true → Fine w
+pub fine-of : (w : World) → sound (w .machine) ≡ true → bothFit w ≡ true → SoundWorld w
 fine-of w s t =
     record {
       is-sound = s;

@@ -1,5 +1,4 @@
 -- The entries of the lists that calls hand back: one core put in place, the cores after a commit, the cards that it wrote.
--- Assumes nothing.
 use mathlib.Core.Path.{_≡_, refl, sym, ap, subst, _∙_}
 use mathlib.Core.Bool.{Bool, true, false, cond}
 use mathlib.Core.List.{List, [], _∷_}
@@ -12,7 +11,7 @@ use lib.Seq.{getD-set-same, getD-set-other}
 use Rattle.objset.specs.Objset.{has}
 use Rattle.core.specs.declared.Core.{Core}
 use Rattle.core.specs.Parts.{noCore}
-use Rattle.core.specs.Life.{struck, over}
+use Rattle.core.specs.Life.{struckBy, over}
 use Rattle.machine.specs.Rule.{cleared, changed}
 
 -- what holds of core c, and of core e where that is another, holds of core e
@@ -31,19 +30,19 @@ put-each P cores n c k h new old e l =
     (λ d. subst (P e) (sym (getD-set-other cores c e k noCore d)) (old e l))
 
 cleared-from : (ws c i : ℕ) (cores : List Core) (e : ℕ) → e < length cores
-    → getD (cleared ws c i cores) e noCore ≡ cond (eqb (i + e) c) (over (getD cores e noCore)) (struck ws (getD cores e noCore))
+    → getD (cleared ws c i cores) e noCore ≡ cond (eqb (i + e) c) (over (getD cores e noCore)) (struckBy ws (getD cores e noCore))
 unfolding cleared
 cleared-from ws c i [] e h = absurd (omega arith)
-cleared-from ws c i (k ∷ ks) zero h = ap (λ (x : ℕ). cond (eqb x c) (over k) (struck ws k)) (omega arith)
+cleared-from ws c i (k ∷ ks) zero h = ap (λ (x : ℕ). cond (eqb x c) (over k) (struckBy ws k)) (omega arith)
 cleared-from ws c i (k ∷ ks) (suc e) h =
     cleared-from ws c (suc i) ks e (omega arith)
-    ∙ ap (λ (x : ℕ). cond (eqb x c) (over (getD ks e noCore)) (struck ws (getD ks e noCore))) (omega arith)
+    ∙ ap (λ (x : ℕ). cond (eqb x c) (over (getD ks e noCore)) (struckBy ws (getD ks e noCore))) (omega arith)
 
--- core c by `over`, every other by `struck`
+-- core c by `over`, every other by `struckBy`
 pub cleared-at : (ws c : ℕ) (cores : List Core) (e : ℕ) → e < length cores
-    → getD (cleared ws c 0 cores) e noCore ≡ cond (eqb e c) (over (getD cores e noCore)) (struck ws (getD cores e noCore))
+    → getD (cleared ws c 0 cores) e noCore ≡ cond (eqb e c) (over (getD cores e noCore)) (struckBy ws (getD cores e noCore))
 cleared-at ws c cores e h =
-    cleared-from ws c 0 cores e h ∙ ap (λ (x : ℕ). cond (eqb x c) (over (getD cores e noCore)) (struck ws (getD cores e noCore))) (omega arith)
+    cleared-from ws c 0 cores e h ∙ ap (λ (x : ℕ). cond (eqb x c) (over (getD cores e noCore)) (struckBy ws (getD cores e noCore))) (omega arith)
 
 pub cleared-long : (ws c i : ℕ) (cores : List Core) → length (cleared ws c i cores) ≡ length cores
 unfolding cleared

@@ -1,4 +1,4 @@
--- What a sound record tells the inside functions: which indices are in range and which sums fit. Assumes nothing.
+-- What a sound record tells the inside functions: which indices are in range and which sums fit.
 use mathlib.Core.Path.{_≡_}
 use mathlib.Core.Bool.{true}
 use Prim.Native.Nat.{ℕ, _+_, _≤_, _<_}

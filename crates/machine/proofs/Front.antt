@@ -1,5 +1,5 @@
 -- Where a loop stands that makes the list `new` of the list `old` by storing one entry after another: the first i entries are
--- those of `new`, the others still those of `old`. Assumes nothing.
+-- those of `new`, the others still those of `old`.
 use mathlib.Core.Path.{_≡_, refl, sym, ap, _∙_}
 use mathlib.Core.List.{List, [], _∷_, _++_}
 use Prim.Native.Nat.{ℕ, zero, suc, _+_, _≤_, _<_}

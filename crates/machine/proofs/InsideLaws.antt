@@ -1,5 +1,5 @@
 -- For callers of the calls, public or inside: the world that a call hands back is good where the world it was given is. A call's
--- promise is its equation here. Assumes nothing.
+-- promise is its equation here.
 use mathlib.Core.Path.{_≡_, sym, ap, subst, _∙_}
 use mathlib.Core.Bool.{true}
 use mathlib.Core.List.{List}
@@ -7,27 +7,23 @@ use Prim.Native.Nat.{ℕ}
 use Rattle.machine.specs.declared.Machine.{Machine}
 use Rattle.machine.specs.declared.Outcome.{Outcome}
 use Rattle.core.specs.declared.Answer.the-variants.{Ready, Waits}
-use Rattle.machine.specs.Answers.{named}
-use Rattle.machine.specs.Inside.{Fine, Good}
+use Rattle.machine.specs.Answers.{coreNamed}
+use Rattle.machine.specs.Inside.{WellFormedWorld}
 use Rattle.machine.specs.Rule.{World, Result, lent, left, setup, commit, contender}
 use Rattle.machine.proofs.Case.{case-of}
 use Rattle.machine.proofs.Binds.{commit-follows}
 use Rattle.machine.proofs.Sound.Keeps.{keeps-good, setup-good}
 
--- what the inside functions that are lent the tables ask
-pub fine : {w : World} → Good w → Fine w
-fine g = record { is-sound = g .is-sound; committed-long = g .committed-long; pending-long = g .pending-long }
-
 -- an accepted setup
 pub setup-left : (cores objects : ℕ) (cs ps : List ℕ) (r : Outcome) (cs′ ps′ : List ℕ) → left r cs′ ps′ ≡ setup cores objects cs ps
-    → r .answer ≡ Ready → Good (lent (r .machine) cs′ ps′)
+    → r .answer ≡ Ready → WellFormedWorld (lent (r .machine) cs′ ps′)
 setup-left cores objects cs ps r cs′ ps′ e ready =
-    subst Good (sym (ap (λ (x : Result). x .world) e))
+    subst WellFormedWorld (sym (ap (λ (x : Result). x .world) e))
     (setup-good cores objects cs ps (sym (ap (λ (x : Result). x .answer) e) ∙ ready))
 
-module _ (m : Machine) (cs ps : List ℕ) (g : Good (lent m cs ps)) (r : Outcome) where
+module _ (m : Machine) (cs ps : List ℕ) (g : WellFormedWorld (lent m cs ps)) (r : Outcome) where
   -- a call that is lent the tables leaves them as cs′ and ps′
   module _ (cs′ ps′ : List ℕ) where
-    pub commit-left : (c : ℕ) → left r cs′ ps′ ≡ commit (named (r .answer)) (lent m cs ps) c
-        → ((e : ℕ) → r .answer ≡ Waits e → contender m c e ≡ true) → Good (lent (r .machine) cs′ ps′)
+    pub commit-left : (c : ℕ) → left r cs′ ps′ ≡ commit (coreNamed (r .answer)) (lent m cs ps) c
+        → ((e : ℕ) → r .answer ≡ Waits e → contender m c e ≡ true) → WellFormedWorld (lent (r .machine) cs′ ps′)
     commit-left c e waits = keeps-good (case-of (commit-follows m cs ps r cs′ ps′ c e waits)) g

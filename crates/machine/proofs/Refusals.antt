@@ -1,5 +1,5 @@
 -- Refusals: the smallest number that applies is given, and only if its condition holds; a refused call changes nothing, a refused
--- setup gives the blank record. Assumes nothing.
+-- setup gives the blank record.
 use mathlib.Core.Path.{_≡_, refl, sym, ap, ap₂, _∙_}
 use mathlib.Core.Bool.{Bool, true, false, cond, _&&_, _||_, and-false, true≢false}
 use mathlib.Core.List.{List, [], _∷_}
@@ -14,8 +14,8 @@ use Rattle.core.specs.declared.Answer.the-variants.{Running, Queued, Refused}
 use Rattle.machine.specs.declared.Outcome.{Outcome}
 use Rattle.machine.specs.Record.{coreAt, blank}
 use Rattle.core.specs.Parts.{running}
-use Rattle.machine.specs.Answers.{number}
-use Rattle.machine.specs.Rule.{commitRefusal, World, Result, lent, unlent, unless, unlessLent, setup, released, release, begun, begin, told, accessRefusal, valued, read, written, write, blocked, through, waiting, commit, ended, giveUp, finished, finish, rule, Call, Release, Begin, Read, Write, Commit, GiveUp, Finish}
+use Rattle.machine.specs.Answers.{refusalNumber}
+use Rattle.machine.specs.Rule.{commitRefusal, World, Result, lent, unlent, unless, unlessLent, setup, released, release, begun, begin, setBackTold, accessRefusal, valued, read, written, write, blocked, through, waiting, commit, ended, giveUp, finished, finish, rule, Call, Release, Begin, Read, Write, Commit, GiveUp, Finish}
 use Rattle.core.specs.Calls.{first}
 use Rattle.core.specs.Life.{withJob}
 use Rattle.machine.specs.Refusals.{refusals, setupRefusals, applies, Smallest}
@@ -91,23 +91,23 @@ commit-in-order w c = refl
 
 -- an answer that is no refusal
 abbrev Accepted : Answer → Type 0
-Accepted a = number a ≡ 0
+Accepted a = refusalNumber a ≡ 0
 
 accepted-release : (m : Machine) (c n deadline : ℕ) → Accepted (released m c (record { number = n; deadline = deadline }) .answer)
-unfolding released number
+unfolding released refusalNumber
 accepted-release m c n deadline = go (eqb (running (withJob (coreAt m c) (record { number = n; deadline = deadline }))) (coreAt m c .count))
   where
     go : (b : Bool) → Accepted (cond b Running Queued)
     go true = refl
     go false = refl
 
-accepted-access : (z : Bool) (w : World) (c : ℕ) (x : Result) → Accepted (x .answer) → Accepted (cond z (told w c) x .answer)
-unfolding told number
+accepted-access : (z : Bool) (w : World) (c : ℕ) (x : Result) → Accepted (x .answer) → Accepted (cond z (setBackTold w c) x .answer)
+unfolding setBackTold refusalNumber
 accepted-access true w c x h = refl
 accepted-access false w c x h = h
 
 accepted-commit : (b : Bool) (e : ℕ) (w : World) (c : ℕ) → Accepted (cond b (waiting w e) (through w c) .answer)
-unfolding through number
+unfolding through refusalNumber
 accepted-commit true e w c = refl
 accepted-commit false e w c = refl
 
@@ -119,59 +119,59 @@ kept n w = record { answer = Refused n; world = w }
 
 -- the number is r; a refusal leaves what was there
 unless-refuses : (r : ℕ) (w : World) (o : Outcome) → Accepted (o .answer)
-    → (number (unless r (w .machine) o .answer) ≡ r)
-    × ((n : ℕ) → number (unless r (w .machine) o .answer) ≡ suc n → unlent w (unless r (w .machine) o) ≡ kept (suc n) w)
-unfolding unless number
+    → (refusalNumber (unless r (w .machine) o .answer) ≡ r)
+    × ((n : ℕ) → refusalNumber (unless r (w .machine) o .answer) ≡ suc n → unlent w (unless r (w .machine) o) ≡ kept (suc n) w)
+unfolding unless refusalNumber
 unless-refuses zero w o h = (h, λ n p. absurd (omega (arith, h, p)))
 unless-refuses (suc r) w o h = (refl, λ n p. ap (λ (x : ℕ). kept x w) p)
 
 lent-refuses : (r : ℕ) (w : World) (x : Result) → Accepted (x .answer)
-    → (number (unlessLent r w x .answer) ≡ r) × ((n : ℕ) → number (unlessLent r w x .answer) ≡ suc n → unlessLent r w x ≡ kept (suc n) w)
-unfolding unlessLent number
+    → (refusalNumber (unlessLent r w x .answer) ≡ r) × ((n : ℕ) → refusalNumber (unlessLent r w x .answer) ≡ suc n → unlessLent r w x ≡ kept (suc n) w)
+unfolding unlessLent refusalNumber
 lent-refuses zero w x h = (h, λ n p. absurd (omega (arith, h, p)))
 lent-refuses (suc r) w x h = (refl, λ n p. ap (λ (y : ℕ). kept y w) p)
 
 -- the number is that of the first condition in document 01's table that holds; a refused call leaves the world as it was
 refuses : (e : ℕ) (w : World) (call : Call)
-    → (number (rule e w call .answer) ≡ first (refusals w call))
-    × ((n : ℕ) → number (rule e w call .answer) ≡ suc n → rule e w call ≡ kept (suc n) w)
+    → (refusalNumber (rule e w call .answer) ≡ first (refusals w call))
+    × ((n : ℕ) → refusalNumber (rule e w call .answer) ≡ suc n → rule e w call ≡ kept (suc n) w)
 unfolding rule refusals first release begin read write commit giveUp finish
 refuses e w (Release c n deadline) = unless-refuses _ w _ (accepted-release (w .machine) c n deadline)
-refuses e w (Begin c) = unless-refuses _ w (begun (w .machine) c) (unfold begun number in refl)
+refuses e w (Begin c) = unless-refuses _ w (begun (w .machine) c) (unfold begun refusalNumber in refl)
 refuses e w (Read c d) =
-    let r = lent-refuses (accessRefusal w c d) w _ (accepted-access (coreAt (w .machine) c .zombie) w c (valued w c d) (unfold valued number in refl)) in
+    let r = lent-refuses (accessRefusal w c d) w _ (accepted-access (coreAt (w .machine) c .zombie) w c (valued w c d) (unfold valued refusalNumber in refl)) in
     (r .0 ∙ access-in-order w c d, r .1)
 refuses e w (Write c d v) =
-    let r = lent-refuses (accessRefusal w c d) w _ (accepted-access (coreAt (w .machine) c .zombie) w c (written w c d v) (unfold written number in refl)) in
+    let r = lent-refuses (accessRefusal w c d) w _ (accepted-access (coreAt (w .machine) c .zombie) w c (written w c d v) (unfold written refusalNumber in refl)) in
     (r .0 ∙ access-in-order w c d, r .1)
 refuses e w (Commit c) =
     let r = lent-refuses (commitRefusal w c) w _ (accepted-access (coreAt (w .machine) c .zombie) w c _ (accepted-commit (blocked (w .machine) c) e w c)) in
     (r .0 ∙ commit-in-order w c, r .1)
-refuses e w (GiveUp c) = unless-refuses _ w (ended (w .machine) c) (unfold ended number in refl)
-refuses e w (Finish c) = unless-refuses _ w (finished (w .machine) c) (unfold finished number in refl)
+refuses e w (GiveUp c) = unless-refuses _ w (ended (w .machine) c) (unfold ended refusalNumber in refl)
+refuses e w (Finish c) = unless-refuses _ w (finished (w .machine) c) (unfold finished refusalNumber in refl)
 
 -- the same of setup, which leaves the blank record and the tables as lent
 setup-refuses : (cores objects : ℕ) (committed pending : List ℕ)
-    → (number (setup cores objects committed pending .answer) ≡ first (setupRefusals cores objects committed pending))
-    × ((n : ℕ) → number (setup cores objects committed pending .answer) ≡ suc n
+    → (refusalNumber (setup cores objects committed pending .answer) ≡ first (setupRefusals cores objects committed pending))
+    × ((n : ℕ) → refusalNumber (setup cores objects committed pending .answer) ≡ suc n
     → setup cores objects committed pending ≡ kept (suc n) (lent blank committed pending))
 unfolding setup setupRefusals
-setup-refuses cores objects committed pending = lent-refuses _ _ _ (unfold number in refl)
+setup-refuses cores objects committed pending = lent-refuses _ _ _ (unfold refusalNumber in refl)
 
 -- ---- for callers
 
 -- the smallest number that applies is given, and only if its condition holds
-pub smallest-given : (e : ℕ) (w : World) (call : Call) → Smallest (number (rule e w call .answer)) (refusals w call)
+pub smallest-given : (e : ℕ) (w : World) (call : Call) → Smallest (refusalNumber (rule e w call .answer)) (refusals w call)
 smallest-given e w call = rw (refuses e w call .0) (first-smallest 0 (refusals w call) (unfold refusals rising in refl))
 
 pub setup-smallest-given : (cores objects : ℕ) (committed pending : List ℕ)
-    → Smallest (number (setup cores objects committed pending .answer)) (setupRefusals cores objects committed pending)
+    → Smallest (refusalNumber (setup cores objects committed pending .answer)) (setupRefusals cores objects committed pending)
 setup-smallest-given cores objects committed pending =
     rw (setup-refuses cores objects committed pending .0)
     (first-smallest 0 (setupRefusals cores objects committed pending) (unfold setupRefusals rising in refl))
 
 -- a refused call gives back the record it took, and lent tables keep every word
-pub refused-unchanged : (e : ℕ) (w : World) (call : Call) (n : ℕ) → number (rule e w call .answer) ≡ suc n → rule e w call .world ≡ w
+pub refused-unchanged : (e : ℕ) (w : World) (call : Call) (n : ℕ) → refusalNumber (rule e w call .answer) ≡ suc n → rule e w call .world ≡ w
 refused-unchanged e w call n p = ap (λ (x : Result). x .world) (refuses e w call .1 n p)
 
 -- where the first condition that holds has number n, that is the answer
@@ -180,6 +180,6 @@ refused-with e w call n p = sym (refuses e w call .1 n (refuses e w call .0 ∙ 
 
 -- a refused setup gives the blank record and keeps the tables as lent
 pub setup-refused-blank : (cores objects : ℕ) (committed pending : List ℕ) (n : ℕ)
-    → number (setup cores objects committed pending .answer) ≡ suc n
+    → refusalNumber (setup cores objects committed pending .answer) ≡ suc n
     → setup cores objects committed pending .world ≡ lent blank committed pending
 setup-refused-blank cores objects committed pending n p = ap (λ (x : Result). x .world) (setup-refuses cores objects committed pending .1 n p)

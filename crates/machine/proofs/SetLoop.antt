@@ -1,4 +1,4 @@
--- A loop over the objects of a set: before the turn of object d, the number that is left holds the objects from d on. Assumes nothing.
+-- A loop over the objects of a set: before the turn of object d, the number that is left holds the objects from d on.
 use mathlib.Core.Path.{_≡_, refl, ap, subst, _∙_}
 use mathlib.Core.Bool.{Bool, true, false}
 use Prim.Native.Nat.{ℕ, suc, _+_, _*_, _-_, _^_, _≤_, _<_, _/_, _%_}

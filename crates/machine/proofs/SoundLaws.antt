@@ -1,4 +1,4 @@
--- The laws behind the soundness test: the rules that one core keeps, and the rules gathered core by core. Assumes nothing.
+-- The laws behind the soundness test: the rules that one core keeps, and the rules gathered core by core.
 use mathlib.Core.Path.{_≡_, refl, sym, ap, ap₂, _∙_}
 use mathlib.Core.Bool.{Bool, true, false, not, _&&_}
 use Prim.Native.Nat.{ℕ, _+_, _≤_, _<_}
@@ -9,32 +9,23 @@ use borrow.Author.Tests.{le-leb, lt-leb}
 use Rattle.objset.specs.Objset.{each}
 use Rattle.objset.proofs.Laws.{one-each}
 use Rattle.machine.specs.declared.Machine.{Machine}
-use Rattle.machine.specs.Record.{coreAt, tally}
-use Rattle.core.specs.Tidy.{_⇒_, unused, tidy, blank}
-use Rattle.machine.specs.Sound.{ahead, sound}
-use Rattle.machine.specs.Sound.{inRange, setsWithin, ownerListed, idleClear, zombieEmpty, atMostEight}
-use Rattle.machine.specs.Sound.{unusedJobs, ownerFirst, lackedCores, versionsBounded, lackedObjects}
-use Rattle.machine.specs.Sound.{ticketsDiffer, ticketsGiven, abortsBounded, ticketsCounted}
+use Rattle.machine.specs.Record.{coreAt, activeAt, tally}
+use Rattle.core.specs.Tidy.{_⇒_, tidy, blankOn}
+use Rattle.machine.specs.Sound.{inRange, setsWithin, ownerListed, idleClear, zombieEmpty, atMostEight, unusedJobs, ownerFirst}
+use Rattle.machine.specs.Sound.{lackedAt, lackedCores, versionAt, versionsBounded, lackedObjectAt, lackedObjects}
+use Rattle.machine.specs.Sound.{differAt, ticketsDiffer, givenAt, ticketsGiven, smallerAt, smallerTickets, abortsAt, abortsBounded}
+use Rattle.machine.specs.Sound.{ticketsCounted, sound, cardsSound, coresTidy, turnsKept, coresSound, turnKept}
 use Rattle.core.proofs.Tidy.{blank-tidy}
 use Rattle.core.proofs.TestLaws.{and-true, same-test, both, each-fails, each-all, each-both, gather}
 use Rattle.machine.proofs.Sound.Passed.{passed, passed-all}
 
 -- ---- all cores
 
--- core c, if the machine lacks it, has no jobs and no transaction
-abbrev pub lackedAt : Machine → ℕ → Bool
-lackedAt m c = leb (m .cores) c ⇒ unused (coreAt m c)
-
 -- what cores_kept tests of core c by itself
 abbrev pub tidyAt : Machine → ℕ → Bool
 tidyAt m c = tidy (m .objects) (coreAt m c) && lackedAt m c
 
--- the rules so tested
-abbrev pub tidyCores : Machine → Bool
-tidyCores m =
-    setsWithin m && ownerListed m && idleClear m && zombieEmpty m && atMostEight m && unusedJobs m && ownerFirst m && lackedCores m
-
-pub cores-tidy : (m : Machine) → each 16 (tidyAt m) ≡ tidyCores m
+pub cores-tidy : (m : Machine) → each 16 (tidyAt m) ≡ coresTidy m
 unfolding setsWithin ownerListed idleClear zombieEmpty atMostEight unusedJobs ownerFirst lackedCores
 cores-tidy m =
     gather 16 _ _ _
@@ -44,20 +35,16 @@ cores-tidy m =
 pub tidy-had : (m : Machine) (c : ℕ) → c < m .cores → tidyAt m c ≡ tidy (m .objects) (coreAt m c)
 tidy-had m c l = rw (lt-leb (m .cores) c l) (and-true (tidy (m .objects) (coreAt m c)))
 
-pub tidy-lacked : (m : Machine) (c : ℕ) → m .cores ≤ c → tidyAt m c ≡ blank (coreAt m c)
+pub tidy-lacked : (m : Machine) (c : ℕ) → m .cores ≤ c → tidyAt m c ≡ blankOn (coreAt m c)
 tidy-lacked m c l = rw (le-leb (m .cores) c l) (sym (blank-tidy (m .objects) (coreAt m c)))
 
 -- ---- versions
 
 -- what versions_bounded tests of object d
-abbrev pub versionAt : Machine → ℕ → Bool
-versionAt m d = leb (getD (m .versions) d 0) (m .commits) && (leb (m .objects) d ⇒ eqb (getD (m .versions) d 0) 0)
+abbrev pub cardAt : Machine → ℕ → Bool
+cardAt m d = versionAt m d && lackedObjectAt m d
 
--- the rules so tested
-abbrev pub boundedVersions : Machine → Bool
-boundedVersions m = versionsBounded m && lackedObjects m
-
-pub versions-bounded : (m : Machine) → each 64 (versionAt m) ≡ boundedVersions m
+pub versions-bounded : (m : Machine) → each 64 (cardAt m) ≡ cardsSound m
 unfolding lackedObjects versionsBounded
 versions-bounded m = gather 64 _ _ _ refl
 
@@ -67,81 +54,63 @@ versions-bounded m = gather 64 _ _ _ refl
 abbrev pub differsFrom : Machine → ℕ → ℕ → Bool
 differsFrom m t e = coreAt m e .active ⇒ not (eqb t (coreAt m e .ticket))
 
--- what turn_kept tests
-abbrev pub turnOf : Machine → ℕ → ℕ → ℕ → Bool
-turnOf m c t b = each c (differsFrom m t) && ltb t (m .tickets) && ltb (b + ahead m t) (m .cores)
-
 -- what cores_kept tests of the transaction on core c
 abbrev pub turnAt : Machine → ℕ → Bool
-turnAt m c =
-    each c (λ e. coreAt m c .active && coreAt m e .active ⇒ not (eqb (coreAt m c .ticket) (coreAt m e .ticket)))
-    && (coreAt m c .active ⇒ ltb (coreAt m c .ticket) (m .tickets))
-    && (coreAt m c .active ⇒ ltb (coreAt m c .aborts + ahead m (coreAt m c .ticket)) (m .cores))
+turnAt m c = each c (differAt m c) && givenAt m c && abortsAt m c
 
--- by whether core c has a transaction
-pub turn-on : (m : Machine) (c : ℕ) → coreAt m c .active ≡ true → turnAt m c ≡ turnOf m c (coreAt m c .ticket) (coreAt m c .aborts)
-turn-on m c on = simp on
+-- the same, b saying whether core c has a transaction
+abbrev turnIf : Machine → ℕ → Bool → Bool
+turnIf m c b =
+    each c (λ e. b && activeAt m e ⇒ not (eqb (coreAt m c .ticket) (coreAt m e .ticket))) && (b ⇒ ltb (coreAt m c .ticket) (m .tickets))
+    && (b ⇒ ltb (coreAt m c .aborts + smallerTickets m (coreAt m c .ticket)) (m .cores))
 
-pub turn-off : (m : Machine) (c : ℕ) → coreAt m c .active ≡ false → turnAt m c ≡ true
-turn-off m c off = simp off (ap (λ (b : Bool). b && true && true) (one-each c (λ e. true) (λ e l. refl)))
+pub turn-on : (m : Machine) (c : ℕ) → activeAt m c ≡ true → turnAt m c ≡ turnKept m c (coreAt m c .ticket) (coreAt m c .aborts)
+turn-on m c on = ap (turnIf m c) on
 
--- the rules so tested
-abbrev pub keptTurns : Machine → Bool
-keptTurns m = ticketsDiffer m && ticketsGiven m && abortsBounded m
+pub turn-off : (m : Machine) (c : ℕ) → activeAt m c ≡ false → turnAt m c ≡ true
+turn-off m c off = ap (turnIf m c) off ∙ ap (λ (b : Bool). b && true && true) (one-each c (λ e. true) (λ e l. refl))
 
-pub turns-kept : (m : Machine) → each 16 (turnAt m) ≡ keptTurns m
+pub turns-kept : (m : Machine) → each 16 (turnAt m) ≡ turnsKept m
 unfolding ticketsDiffer ticketsGiven abortsBounded
 turns-kept m = gather 16 _ _ _ (gather 16 _ _ _ refl)
-
--- core c has a transaction in progress
-abbrev pub activeAt : Machine → ℕ → Bool
-activeAt m c = coreAt m c .active
 
 -- what cores_kept tests of core c
 abbrev pub keptAt : Machine → ℕ → Bool
 keptAt m c = tidyAt m c && turnAt m c
 
--- the rules so tested, and the count
-abbrev pub keptCores : Machine → Bool
-keptCores m = tidyCores m && keptTurns m && ticketsCounted m
-
-cores-kept : (m : Machine) → each 16 (keptAt m) ≡ (tidyCores m && keptTurns m)
+cores-kept : (m : Machine) → each 16 (keptAt m) ≡ (coresTidy m && turnsKept m)
 cores-kept m = each-both 16 (tidyAt m) (turnAt m) ∙ ap₂ _&&_ (cores-tidy m) (turns-kept m)
 
 -- a core that breaks them
-pub kept-fails : (m : Machine) (c : ℕ) → c < 16 → {a b : Bool} → tidyAt m c ≡ a → turnAt m c ≡ b → (a && b) ≡ false → false ≡ keptCores m
+pub kept-fails : (m : Machine) (c : ℕ) → c < 16 → {a b : Bool} → tidyAt m c ≡ a → turnAt m c ≡ b → (a && b) ≡ false → false ≡ coresSound m
 kept-fails m c l p q e =
     ap (λ (x : Bool). x && ticketsCounted m) (each-fails 16 (keptAt m) c l (ap₂ _&&_ p q ∙ e) ∙ cores-kept m)
 
 -- where all keep them, what is left is the count
 pub kept-all : (m : Machine) (n c : ℕ) → 16 ≤ c → c ≤ 16 → n ≡ tally c (activeAt m) → each c (keptAt m) ≡ true
-    → eqb (m .tickets) (m .commits + m .«give_ups» + n) ≡ keptCores m
+    → eqb (m .tickets) (m .commits + m .«give_ups» + n) ≡ coresSound m
 unfolding ticketsCounted
 kept-all m n c p q e a =
     let s : c ≡ 16 = omega arith in
     ap₂ (λ (b : Bool) (x : ℕ). b && eqb (m .tickets) (m .commits + m .«give_ups» + x))
     (each-all 16 c (keptAt m) p q a ∙ cores-kept m) (e ∙ ap (λ (x : ℕ). tally x (activeAt m)) s)
 
--- core c has a transaction in progress with a ticket smaller than t
-abbrev pub aheadAt : Machine → ℕ → ℕ → Bool
-aheadAt m t c = coreAt m c .active && ltb (coreAt m c .ticket) t
-
-pub ahead-all : (m : Machine) (t n b c : ℕ) → 16 ≤ c → c ≤ 16 → n ≡ b + tally c (aheadAt m t) → n ≡ b + ahead m t
-unfolding ahead
-ahead-all m t n b c p q e = let s : c ≡ 16 = omega arith in e ∙ ap (λ (x : ℕ). b + tally x (aheadAt m t)) s
+pub ahead-all : (m : Machine) (t n b c : ℕ) → 16 ≤ c → c ≤ 16 → n ≡ b + tally c (smallerAt m t) → n ≡ b + smallerTickets m t
+unfolding smallerTickets
+ahead-all m t n b c p q e = let s : c ≡ 16 = omega arith in e ∙ ap (λ (x : ℕ). b + tally x (smallerAt m t)) s
 
 -- ---- the record
 
 -- the three groups of rules are all of them
-pub sound-parts : (m : Machine) → (inRange m && boundedVersions m && keptCores m) ≡ sound m
+pub sound-parts : (m : Machine) → (inRange m && cardsSound m && coresSound m) ≡ sound m
 sound-parts m = same-test _ (sound m) to from
   where
-    to : (inRange m && boundedVersions m && keptCores m) ≡ true → sound m ≡ true
+    to : (inRange m && cardsSound m && coresSound m) ≡ true → sound m ≡ true
     to e =
-        let k = both _ (keptCores m) e in
-        let v = both (inRange m) (boundedVersions m) (k .0) in
-        let t1 = both (tidyCores m && keptTurns m) (ticketsCounted m) (k .1) in
-        let c = both (tidyCores m) (keptTurns m) (t1 .0) in
+        let k = both _ (coresSound m) e in
+        let v = both (inRange m) (cardsSound m) (k .0) in
+        let t1 = both (coresTidy m && turnsKept m) (ticketsCounted m) (k .1) in
+        let c = both (coresTidy m) (turnsKept m) (t1 .0) in
         let t2 = both _ (abortsBounded m) (c .1) in
         let t3 = both (ticketsDiffer m) (ticketsGiven m) (t2 .0) in
         let v1 = both (versionsBounded m) (lackedObjects m) (v .1) in
@@ -171,7 +140,7 @@ sound-parts m = same-test _ (sound m) to from
           passed-aborts-bounded = t2 .1;
         })
 
-    from : sound m ≡ true → (inRange m && boundedVersions m && keptCores m) ≡ true
+    from : sound m ≡ true → (inRange m && cardsSound m && coresSound m) ≡ true
     from s =
         let p = passed m s in
         rw (
@@ -193,15 +162,15 @@ sound-parts m = same-test _ (sound m) to from
         )
 
 module _ (m : Machine) where
-  three : {a b c : Bool} → inRange m ≡ a → boundedVersions m ≡ b → keptCores m ≡ c → (a && b && c) ≡ sound m
+  three : {a b c : Bool} → inRange m ≡ a → cardsSound m ≡ b → coresSound m ≡ c → (a && b && c) ≡ sound m
   three a b c = sym (ap₂ _&&_ (ap₂ _&&_ a b) c) ∙ sound-parts m
 
   -- by the first group that fails, or by the last
   pub out-of-range : inRange m ≡ false → false ≡ sound m
   out-of-range a = three a refl refl
 
-  pub unbounded : inRange m ≡ true → boundedVersions m ≡ false → false ≡ sound m
+  pub unbounded : inRange m ≡ true → cardsSound m ≡ false → false ≡ sound m
   unbounded a b = three a b refl
 
-  pub by-cores : {r : Bool} → inRange m ≡ true → boundedVersions m ≡ true → r ≡ keptCores m → r ≡ sound m
+  pub by-cores : {r : Bool} → inRange m ≡ true → cardsSound m ≡ true → r ≡ coresSound m → r ≡ sound m
   by-cores a b d = d ∙ three a b refl

@@ -11,7 +11,7 @@ use Rattle.core.specs.declared.Core.{Core}
 use Rattle.core.specs.Parts.{noCore}
 use Rattle.core.specs.Life.{isStruck, aborted}
 use Rattle.machine.specs.declared.Machine.{Machine}
-use Rattle.machine.specs.OneCore.{strikes}
+use Rattle.machine.specs.OneCore.{struckAll}
 use Rattle.machine.proofs.CoreLists.{strikes-next, strikes-hit, strikes-missed, strikes-done}
 use Rattle.machine.proofs.Front.{Stands}
 
@@ -33,7 +33,7 @@ pub record Striking (ws : ℕ) (m₀ : Machine) (reach : ℕ) (m : Machine) (e :
   pub long : length (m₀ .core) ≡ 16
   pub few : reach ≤ 16
   pub strikable : (i : ℕ) → i < 16 → getD (m₀ .core) i noCore .aborts < 255
-  pub stands : Stands e (strikes ws (m₀ .core)) (m₀ .core) (m .core)
+  pub stands : Stands e (struckAll ws (m₀ .core)) (m₀ .core) (m .core)
   pub same : m ≡ withCores m₀ (m .core)
 
 -- the loop goes as far as there are cores
@@ -56,7 +56,7 @@ module _ {ws : ℕ} {m₀ : Machine} {reach : ℕ} {m : Machine} {e : ℕ} (s : 
   striking-able =
       omega (arith, ap (λ (k : Core). k .aborts) (strikes-next ws (m₀ .core) e (m .core) (s .stands) within), s .strikable e striking-place)
 
-  moved-on : (next : Machine) → next ≡ withCores m (next .core) → Stands (e + 1) (strikes ws (m₀ .core)) (m₀ .core) (next .core)
+  moved-on : (next : Machine) → next ≡ withCores m (next .core) → Stands (e + 1) (struckAll ws (m₀ .core)) (m₀ .core) (next .core)
       → Striking ws m₀ reach next (e + 1)
   moved-on next is there =
       record {
@@ -81,6 +81,6 @@ module _ {ws : ℕ} {m₀ : Machine} {reach : ℕ} {m : Machine} {e : ℕ} (s : 
 
 -- all cores have had their turn
 pub striking-done : {ws : ℕ} {m₀ : Machine} {reach : ℕ} {m : Machine} {e : ℕ} → Striking ws m₀ reach m e → 16 ≤ e
-    → m ≡ withCores m₀ (strikes ws (m₀ .core))
+    → m ≡ withCores m₀ (struckAll ws (m₀ .core))
 striking-done {ws} {m₀} {reach} {m} {e} s h =
     s .same ∙ ap (withCores m₀) (strikes-done ws (m₀ .core) e (m .core) (s .stands) (omega (arith, s .long, h)))

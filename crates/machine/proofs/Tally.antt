@@ -1,4 +1,4 @@
--- Laws of `tally`, how many of the numbers below n pass a test. Assumes nothing.
+-- Laws of `tally`, how many of the numbers below n pass a test.
 use mathlib.Core.Path.{_≡_, refl, sym, ap, ap₂, _∙_}
 use mathlib.Core.Bool.{Bool, true, false, cond, _||_, true≢false}
 use Prim.Native.Nat.{ℕ, zero, suc, _+_, _≤_, _<_}

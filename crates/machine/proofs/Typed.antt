@@ -1,5 +1,5 @@
 -- What the types of the code say of a record, whatever its fields hold: how long the arrays are, and that each number fits its word.
--- `Is` is what a function is told of a parameter that it owns. Assumes nothing.
+-- `Is` is what a function is told of a parameter that it owns.
 use mathlib.Core.Path.{_≡_, sym, _∙_}
 use mathlib.Core.List.{List, [], _∷_, map}
 use Prim.Native.Nat.{ℕ, zero, suc, _<_}

@@ -1,5 +1,5 @@
 -- Document 01's number and values for each case of the answer enum, and the test that two answers are the same. The document
--- numbers refusals only; so that answers can be compared, `kind` gives each case its place in the enum. Assumes nothing.
+-- numbers refusals only; so that answers can be compared, `kind` gives each case its place in the enum.
 use mathlib.Core.Bool.{Bool, true, false, _&&_}
 use mathlib.Core.List.{List, [], _∷_}
 use Prim.Native.Nat.{ℕ}
@@ -8,19 +8,19 @@ use Rattle.core.specs.declared.Answer.{Answer}
 use Rattle.core.specs.declared.Answer.the-variants.{Ready, Running, Queued, Begun, Value, Written, Waits, Committed, SetBack, Ended, Finished, Refused}
 
 -- the number of a refusal; 0 for an answer that is none
-unfoldable pub number : Answer → ℕ
-number Ready = 0
-number Running = 0
-number Queued = 0
-number (Begun t) = 0
-number (Value v n) = 0
-number Written = 0
-number (Waits c) = 0
-number (Committed n) = 0
-number SetBack = 0
-number Ended = 0
-number (Finished j) = 0
-number (Refused n) = n
+unfoldable pub refusalNumber : Answer → ℕ
+refusalNumber Ready = 0
+refusalNumber Running = 0
+refusalNumber Queued = 0
+refusalNumber (Begun t) = 0
+refusalNumber (Value v n) = 0
+refusalNumber Written = 0
+refusalNumber (Waits c) = 0
+refusalNumber (Committed n) = 0
+refusalNumber SetBack = 0
+refusalNumber Ended = 0
+refusalNumber (Finished j) = 0
+refusalNumber (Refused n) = n
 
 -- which case it is: its place in the enum
 unfoldable pub kind : Answer → ℕ
@@ -54,19 +54,19 @@ values (Finished j) = j ∷ []
 values (Refused n) = n ∷ []
 
 -- the core that an answer of waits names; 0 for any other
-unfoldable pub named : Answer → ℕ
-named Ready = 0
-named Running = 0
-named Queued = 0
-named (Begun t) = 0
-named (Value v n) = 0
-named Written = 0
-named (Waits c) = c
-named (Committed n) = 0
-named SetBack = 0
-named Ended = 0
-named (Finished j) = 0
-named (Refused n) = 0
+unfoldable pub coreNamed : Answer → ℕ
+coreNamed Ready = 0
+coreNamed Running = 0
+coreNamed Queued = 0
+coreNamed (Begun t) = 0
+coreNamed (Value v n) = 0
+coreNamed Written = 0
+coreNamed (Waits c) = c
+coreNamed (Committed n) = 0
+coreNamed SetBack = 0
+coreNamed Ended = 0
+coreNamed (Finished j) = 0
+coreNamed (Refused n) = 0
 
 unfoldable pub sameList : List ℕ → List ℕ → Bool
 sameList [] [] = true

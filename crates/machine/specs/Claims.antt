@@ -1,19 +1,20 @@
 -- The claim about whole runs, demands 2 and 3: one statement about a whole list of the seven calls after an accepted setup. Read
 -- it from top to bottom; its words are in Words.antt, Rounds.antt and Serial.antt, the rules in Rule.antt, what a call's promise
--- says in Follows.antt. Assumes nothing.
+-- says in Follows.antt.
 use mathlib.Core.Path.{_≡_}
 use mathlib.Core.Bool.{true}
 use mathlib.Core.List.{List, [], _∷_, _++_}
 use Prim.Native.Nat.{ℕ, _+_, _*_, _≤_, _<_}
 use Rattle.core.specs.declared.Answer.{Answer}
 use Rattle.core.specs.declared.Answer.the-variants.{Value}
-use Rattle.machine.specs.Answers.{named}
+use Rattle.machine.specs.Answers.{coreNamed}
 use Rattle.machine.specs.Record.{tally}
 use Rattle.machine.specs.Rule.{World, rule, Call, Read}
 use Rattle.machine.specs.Follows.{Follows}
 use Rattle.machine.specs.Words.{Event, Deed, begins, waits, commits, deeds, inProgress, births, born, ahead, attempt, strikes, conflict, struck, setBacks}
 use Rattle.machine.specs.Rounds.{Rounds, fate, committed, given-up, AtMost}
 use Rattle.machine.specs.Serial.{replays, serial, stood, settled, version}
+use Rattle.core.specs.Parts.{mostCores}
 
 -- A run from the world w₀: each call gets the record that the last one returned and is lent the tables as the calls before left
 -- them, and keeps its promise, which is all that is known of it. Newest first.
@@ -36,7 +37,7 @@ pub record ByTheRule (w₀ : World) (es : List Event) (w : World) : Type 0 where
   pub passed-worked : (late early : List Event) → es ≡ late ++ early → (v : World) × Run w₀ early v × Run v late w × (v ≡ worked w₀ early)
   -- the answer of each call, the rule being told the core that it names
   pub answers-worked : (late early : List Event) (e : Event) → es ≡ late ++ e ∷ early
-      → e .answer ≡ rule (named (e .answer)) (worked w₀ early) (e .call) .answer
+      → e .answer ≡ rule (coreNamed (e .answer)) (worked w₀ early) (e .call) .answer
 
 -- Demand 3, of every transaction T begun in the list. A moment is a list of the deeds so far, early; late is what came after it.
 pub record Served (h : List Deed) : Type 0 where
@@ -53,7 +54,7 @@ pub record Served (h : List Deed) : Type 0 where
   -- if not given up and with at most l reads and writes in any attempt of T and those k, committed within (k + 1) × (l + 2) rounds
   pub within-rounds : (late since early : List Deed) (c l : ℕ) → h ≡ late ++ since ++ begins c ∷ early
       → AtMost l (births early) (begins c ∷ early) since
-      → Rounds (births early) (begins c ∷ early) ((tally 16 (inProgress early) + 1) * (l + 2)) (since ++ begins c ∷ early)
+      → Rounds (births early) (begins c ∷ early) ((tally mostCores (inProgress early) + 1) * (l + 2)) (since ++ begins c ∷ early)
       → (fate since c ≡ given-up → ⊥) → fate since c ≡ committed
 
 -- Demand 2. The committed transactions' last attempts, run one after another in commit order on a table of their own.

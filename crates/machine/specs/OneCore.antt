@@ -1,5 +1,4 @@
 -- A call takes one core out of the record and puts it back: where it finds it, what it sees beside it, and what is put back.
--- Assumes nothing.
 use mathlib.Core.Bool.{Bool, cond}
 use mathlib.Core.List.{List, [], _∷_}
 use Prim.Native.Nat.{ℕ, zero, suc, _+_, _*_}
@@ -11,8 +10,8 @@ use Rattle.core.specs.declared.calls.Act.the-variants as Act
 use Rattle.core.specs.declared.calls.Seen.{Seen}
 use Rattle.core.specs.declared.calls.Acted.{Acted}
 use Rattle.core.specs.declared.calls.Settled.{Settled}
-use Rattle.core.specs.Parts.{noCore}
-use Rattle.core.specs.Life.{holdsBack, struck}
+use Rattle.core.specs.Parts.{mostCores, noCore}
+use Rattle.core.specs.Life.{holdsBack, struckBy}
 use Rattle.machine.specs.declared.Machine.{Machine}
 use Rattle.machine.specs.declared.Outcome.{Outcome}
 use Rattle.machine.specs.declared.inside.calls.Found.{Found}
@@ -77,20 +76,20 @@ handed x = record { answer = x .answer; machine = x .world .machine }
 
 -- the least of the first n cores that holds the transaction of core k back; 16 where none does
 unfoldable pub firstFrom : List Core → ℕ → Core → ℕ
-firstFrom [] i k = 16
+firstFrom [] i k = mostCores
 firstFrom (x ∷ xs) i k = cond (holdsBack x k) i (firstFrom xs (suc i) k)
 
 abbrev pub firstHolding : List Core → Core → ℕ
 firstHolding cores k = firstFrom cores 0 k
 
 -- each transaction that the write set ws strikes is set back
-unfoldable pub strikes : ℕ → List Core → List Core
-strikes ws [] = []
-strikes ws (k ∷ ks) = struck ws k ∷ strikes ws ks
+unfoldable pub struckAll : ℕ → List Core → List Core
+struckAll ws [] = []
+struckAll ws (k ∷ ks) = struckBy ws k ∷ struckAll ws ks
 
 -- the answer of a commit of core c, and the world with what it left on that core put back and the write set that it commits carried out
-abbrev pub settled : World → ℕ → Settled → Result
-settled w c r =
+abbrev pub carriedOut : World → ℕ → Settled → Result
+carriedOut w c r =
     record {
       answer = r .answer;
       world =
@@ -101,7 +100,7 @@ settled w c r =
             tickets = w .machine .tickets;
             commits = w .machine .commits + r .commits;
             «give_ups» = w .machine .«give_ups»;
-            core = strikes (r .writes) (set (w .machine .core) c (r .core));
+            core = struckAll (r .writes) (set (w .machine .core) c (r .core));
             versions = changed (r .writes) (λ d v. v + 1) 0 (w .machine .versions);
           })
           (changed (r .writes) (moved w c) 0 (w .committed)) (w .pending);

@@ -1,21 +1,24 @@
--- What a refused call gives (document 01): the table of refusals, and 'the smallest number that applies'. Assumes nothing.
+-- What a refused call gives (document 01): the table of refusals, and 'the smallest number that applies'.
 use mathlib.Core.Path.{_≡_}
 use mathlib.Core.Bool.{Bool, true, false, not, _&&_, _||_}
 use mathlib.Core.List.{List, [], _∷_}
 use Prim.Native.Nat.{ℕ, _≤_, _<_}
 use lib.Dec.{eqb}
 use Rattle.machine.specs.declared.Machine.{Machine}
-use Rattle.machine.specs.Rule.{World, outOfRange, misfit, unsound, wrongTables, noSuchCore, noSuchObject, fullList, jobless, inProgress, ticketsSpent, Call, Release, Begin, Read, Write, Commit, GiveUp, Finish, coreOf}
+use Rattle.core.specs.declared.Answer.{Answer}
+use Rattle.machine.specs.Answers.{refusalNumber, values, coreNamed}
+use Rattle.machine.specs.Record.{activeAt}
+use Rattle.machine.specs.Rule.{World, outOfRange, misfit, unsound, wrongTables, noSuchCore, noSuchObject, fullList, jobless, ticketsSpent, setup, rule, Call, Release, Begin, Read, Write, Commit, GiveUp, Finish, coreOf}
 
 -- the card that a read or a write names
-abbrev pub objectOf : Call → ℕ
-objectOf (Release c number deadline) = 0
-objectOf (Begin c) = 0
-objectOf (Read c d) = d
-objectOf (Write c d v) = d
-objectOf (Commit c) = 0
-objectOf (GiveUp c) = 0
-objectOf (Finish c) = 0
+abbrev pub objectNamed : Call → ℕ
+objectNamed (Release c number deadline) = 0
+objectNamed (Begin c) = 0
+objectNamed (Read c d) = d
+objectNamed (Write c d v) = d
+objectNamed (Commit c) = 0
+objectNamed (GiveUp c) = 0
+objectNamed (Finish c) = 0
 
 -- the entry for a call in a row of the table
 abbrev pub at : Call → Bool → Bool → Bool → Bool → Bool → Bool → Bool → Bool
@@ -43,11 +46,11 @@ refusals w call =
     (unsound m, 2)
     ∷ (at call ∘ ∘ ✓ ✓ ✓ ∘ ∘ && wrongTables w, 3)
     ∷ (noSuchCore m c, 4)
-    ∷ (at call ∘ ∘ ✓ ✓ ∘ ∘ ∘ && noSuchObject m (objectOf call), 5)
+    ∷ (at call ∘ ∘ ✓ ✓ ∘ ∘ ∘ && noSuchObject m (objectNamed call), 5)
     ∷ (at call ✓ ∘ ∘ ∘ ∘ ∘ ∘ && fullList m c, 6)
     ∷ (at call ∘ ✓ ∘ ∘ ∘ ∘ ✓ && jobless m c, 7)
-    ∷ (at call ∘ ✓ ∘ ∘ ∘ ∘ ✓ && inProgress m c, 8)
-    ∷ (at call ∘ ∘ ✓ ✓ ✓ ✓ ∘ && not (inProgress m c), 9)
+    ∷ (at call ∘ ✓ ∘ ∘ ∘ ∘ ✓ && activeAt m c, 8)
+    ∷ (at call ∘ ∘ ✓ ✓ ✓ ✓ ∘ && not (activeAt m c), 9)
     ∷ (at call ∘ ✓ ∘ ∘ ∘ ∘ ∘ && ticketsSpent m, 10) ∷ []
 
 -- the table of setup
@@ -65,3 +68,16 @@ pub record Smallest (n : ℕ) (xs : List (Bool × ℕ)) : Type 0 where
   pub it-applies : 0 < n → applies n xs ≡ true
   -- and if any number applies, one is given that is no greater
   pub none-smaller : (k : ℕ) → applies k xs ≡ true → (0 < n) × (n ≤ k)
+
+-- document 01's number and values of an answer: the smallest number that applies, and the values of the answer that is expected
+abbrev pub Tabled : Answer → List (Bool × ℕ) → Answer → Type 0
+Tabled a conditions expected = Smallest (refusalNumber a) conditions × (values a ≡ values expected)
+
+-- of the answer to a call after setup; expected is the rule's answer, told the core that waits names
+abbrev pub Numbered : World → Call → Answer → Type 0
+Numbered w call a = Tabled a (refusals w call) (rule (coreNamed a) w call .answer)
+
+-- and of the answer to setup
+abbrev pub NumberedSetup : ℕ → ℕ → List ℕ → List ℕ → Answer → Type 0
+NumberedSetup cores objects committed pending a =
+    Tabled a (setupRefusals cores objects committed pending) (setup cores objects committed pending .answer)

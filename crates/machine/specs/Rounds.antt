@@ -1,4 +1,4 @@
--- Rounds, and what becomes of a transaction (document 01, the words of demand 3). Assumes nothing.
+-- Rounds, and what becomes of a transaction (document 01, the words of demand 3).
 use mathlib.Core.Path.{_≡_}
 use mathlib.Core.Bool.{Bool, true, cond, _&&_}
 use mathlib.Core.List.{List, [], _∷_, _++_}
@@ -8,6 +8,7 @@ use lib.ListN.{length}
 use Rattle.objset.specs.Objset.{each}
 use Rattle.core.specs.Tidy.{_⇒_}
 use Rattle.machine.specs.Words.{Deed, begins, reads, writes, waits, commits, told, gives, other, actsOn, inProgress, born, any, attempt}
+use Rattle.core.specs.Parts.{mostCores}
 
 -- core b has T or one of those k in progress: the one begun as number t or before, T being number t
 unfoldable pub among : ℕ → List Deed → ℕ → Bool
@@ -16,7 +17,7 @@ among t h b = inProgress h b && leb (born h b) t
 -- a stretch of calls, one after another after the list h, in which each core that has T or one of those k in progress when the
 -- stretch starts acts; the first such act is for that very transaction, which only an act on its core ends
 unfoldable pub isRound : ℕ → List Deed → List Deed → Bool
-isRound t h stretch = each 16 (λ b. among t h b ⇒ any (λ x. actsOn x b) stretch)
+isRound t h stretch = each mostCores (λ b. among t h b ⇒ any (λ x. actsOn x b) stretch)
 
 -- `Rounds t start n h`: from the list start to the list h there are n rounds that do not overlap
 pub data Rounds (t : ℕ) (start : List Deed) : ℕ → List Deed → Type 0 where

@@ -1,5 +1,4 @@
 -- The eight calls (document 01): for each the answer and what comes after it, refusals first, the smallest that applies.
--- Assumes nothing.
 use mathlib.Core.Bool.{Bool, cond, not, _&&_}
 use mathlib.Core.List.{List, [], _∷_}
 use Prim.Native.Nat.{ℕ, zero, suc, _+_, _*_}
@@ -12,11 +11,11 @@ use Rattle.core.specs.declared.Job.{Job}
 use Rattle.core.specs.declared.Answer.{Answer}
 use Rattle.core.specs.declared.Answer.the-variants.{Ready, Running, Queued, Begun, Value, Written, Waits, Committed, SetBack, Ended, Finished, Refused}
 use Rattle.machine.specs.declared.Outcome.{Outcome}
-use Rattle.core.specs.Parts.{jobAt, running}
-use Rattle.core.specs.Life.{withJob, withoutJob, withTransaction, unmarked, withRead, withWrite, holdsBack, struck, over}
+use Rattle.core.specs.Parts.{mostCores, jobAt, running}
+use Rattle.core.specs.Life.{withJob, withoutJob, withTransaction, unmarked, withRead, withWrite, holdsBack, struckBy, over}
 use Rattle.core.specs.Calls as Core
 use Rattle.core.specs.Calls.{first}
-use Rattle.machine.specs.Record.{coreAt, sizesInRange, blank, machineOf, putCore}
+use Rattle.machine.specs.Record.{coreAt, activeAt, sizesInRange, blank, machineOf, putCore}
 use Rattle.machine.specs.Sound.{sound}
 
 -- the record and the two lent tables: the committed values, one per card, and the pending values, cores × cards words
@@ -74,17 +73,14 @@ abbrev pub noSuchObject : Machine → ℕ → Bool
 noSuchObject m d = not (ltb d (m .objects))
 
 abbrev pub fullList : Machine → ℕ → Bool
-fullList m c = Core.fullList (coreAt m c)
+fullList m c = Core.fullListOn (coreAt m c)
 
 abbrev pub jobless : Machine → ℕ → Bool
-jobless m c = Core.jobless (coreAt m c)
-
-abbrev pub inProgress : Machine → ℕ → Bool
-inProgress m c = coreAt m c .active
+jobless m c = Core.joblessOn (coreAt m c)
 
 -- 4,294,967,295 tickets given
 abbrev pub ticketsSpent : Machine → Bool
-ticketsSpent m = Core.ticketsSpent (m .tickets)
+ticketsSpent m = Core.allGiven (m .tickets)
 
 -- ---- setup: no jobs, no transactions, all versions and both tables zero
 
@@ -131,20 +127,20 @@ unfoldable pub begin : Machine → ℕ → Outcome
 begin m c =
     unless
     (first
-    ((unsound m, 2) ∷ (noSuchCore m c, 4) ∷ (jobless m c, 7) ∷ (inProgress m c, 8) ∷ (ticketsSpent m, 10) ∷ [])) m
+    ((unsound m, 2) ∷ (noSuchCore m c, 4) ∷ (jobless m c, 7) ∷ (activeAt m c, 8) ∷ (ticketsSpent m, 10) ∷ [])) m
     (begun m c)
 
 -- ---- a marked transaction's next read, write or commit answers set back and takes away the mark
 
-unfoldable pub told : World → ℕ → Result
-told w c = record { answer = SetBack; world = withMachine w (putCore (w .machine) c (unmarked (coreAt (w .machine) c))) }
+unfoldable pub setBackTold : World → ℕ → Result
+setBackTold w c = record { answer = SetBack; world = withMachine w (putCore (w .machine) c (unmarked (coreAt (w .machine) c))) }
 
 -- the refusals of read and write
 unfoldable pub accessRefusal : World → ℕ → ℕ → ℕ
 accessRefusal w c d =
     first
     ((unsound (w .machine), 2) ∷ (wrongTables w, 3) ∷ (noSuchCore (w .machine) c, 4) ∷ (noSuchObject (w .machine) d, 5)
-    ∷ (not (inProgress (w .machine) c), 9) ∷ [])
+    ∷ (not (activeAt (w .machine) c), 9) ∷ [])
 
 -- the word of the pending table for core c and card d
 abbrev pub slot : Machine → ℕ → ℕ → ℕ
@@ -165,7 +161,7 @@ valued w c d =
     }
 
 unfoldable pub read : World → ℕ → ℕ → Result
-read w c d = unlessLent (accessRefusal w c d) w (cond (coreAt (w .machine) c .zombie) (told w c) (valued w c d))
+read w c d = unlessLent (accessRefusal w c d) w (cond (coreAt (w .machine) c .zombie) (setBackTold w c) (valued w c d))
 
 -- ---- write: stores the pending word; the card joins the write set
 
@@ -183,7 +179,7 @@ written w c d v =
     }
 
 unfoldable pub write : World → ℕ → ℕ → ℕ → Result
-write w c d v = unlessLent (accessRefusal w c d) w (cond (coreAt (w .machine) c .zombie) (told w c) (written w c d v))
+write w c d v = unlessLent (accessRefusal w c d) w (cond (coreAt (w .machine) c .zombie) (setBackTold w c) (written w c d v))
 
 -- ---- commit
 
@@ -192,7 +188,7 @@ unfoldable pub contender : Machine → ℕ → ℕ → Bool
 contender m c e = holdsBack (coreAt m e) (coreAt m c)
 
 unfoldable pub blocked : Machine → ℕ → Bool
-blocked m c = some 16 (contender m c)
+blocked m c = some mostCores (contender m c)
 
 -- the least number below n that passes f, if one does
 unfoldable pub leastOf : ℕ → (ℕ → Bool) → ℕ
@@ -201,12 +197,12 @@ leastOf (suc n) f = cond (some n f) (leastOf n f) n
 
 -- a core that waits may name, where the commit is blocked: the least
 abbrev pub firstAhead : Machine → ℕ → ℕ
-firstAhead m c = leastOf 16 (contender m c)
+firstAhead m c = leastOf mostCores (contender m c)
 
--- every core but c by `struck`, core c by `over`; the list starts with core i
+-- every core but c by `struckBy`, core c by `over`; the list starts with core i
 unfoldable pub cleared : ℕ → ℕ → ℕ → List Core → List Core
 cleared ws c i [] = []
-cleared ws c i (k ∷ ks) = cond (eqb i c) (over k) (struck ws k) ∷ cleared ws c (suc i) ks
+cleared ws c i (k ∷ ks) = cond (eqb i c) (over k) (struckBy ws k) ∷ cleared ws c (suc i) ks
 
 -- a list with its entries at the objects of the set ws changed by f; the list starts with object i
 unfoldable pub changed : ℕ → (ℕ → ℕ → ℕ) → ℕ → List ℕ → List ℕ
@@ -248,13 +244,13 @@ waiting w e = record { answer = Waits e; world = w }
 unfoldable pub commitRefusal : World → ℕ → ℕ
 commitRefusal w c =
     first
-    ((unsound (w .machine), 2) ∷ (wrongTables w, 3) ∷ (noSuchCore (w .machine) c, 4) ∷ (not (inProgress (w .machine) c), 9) ∷ [])
+    ((unsound (w .machine), 2) ∷ (wrongTables w, 3) ∷ (noSuchCore (w .machine) c, 4) ∷ (not (activeAt (w .machine) c), 9) ∷ [])
 
 -- e is the core that waits names
 unfoldable pub commit : ℕ → World → ℕ → Result
 commit e w c =
     unlessLent (commitRefusal w c) w
-    (cond (coreAt (w .machine) c .zombie) (told w c) (cond (blocked (w .machine) c) (waiting w e) (through w c)))
+    (cond (coreAt (w .machine) c .zombie) (setBackTold w c) (cond (blocked (w .machine) c) (waiting w e) (through w c)))
 
 -- ---- give up: the transaction ends without effect
 
@@ -275,7 +271,7 @@ ended m c =
     }
 
 unfoldable pub giveUp : Machine → ℕ → Outcome
-giveUp m c = unless (first ((unsound m, 2) ∷ (noSuchCore m c, 4) ∷ (not (inProgress m c), 9) ∷ [])) m (ended m c)
+giveUp m c = unless (first ((unsound m, 2) ∷ (noSuchCore m c, 4) ∷ (not (activeAt m c), 9) ∷ [])) m (ended m c)
 
 -- ---- finish: the running job leaves the list, the others keep their order; its number is the answer
 
@@ -289,7 +285,7 @@ finished m c =
 
 unfoldable pub finish : Machine → ℕ → Outcome
 finish m c =
-    unless (first ((unsound m, 2) ∷ (noSuchCore m c, 4) ∷ (jobless m c, 7) ∷ (inProgress m c, 8) ∷ [])) m (finished m c)
+    unless (first ((unsound m, 2) ∷ (noSuchCore m c, 4) ∷ (jobless m c, 7) ∷ (activeAt m c, 8) ∷ [])) m (finished m c)
 
 -- ---- one rule for the seven calls after setup
 

@@ -1,5 +1,4 @@
 -- The words of demand 2: the committed last attempts run one after another in commit order, and values that stood together.
--- Assumes nothing.
 use mathlib.Core.Bool.{Bool, true, false, cond, _&&_}
 use mathlib.Core.List.{List, [], _∷_}
 use Prim.Native.Nat.{ℕ, _+_}

@@ -1,16 +1,17 @@
 -- The words of demand 3 (document 01), from the calls and their answers alone. A list has the newest first, so that 'since' and
--- 'before' are the rest of the list. Assumes nothing.
+-- 'before' are the rest of the list.
 use mathlib.Core.Bool.{Bool, true, false, cond, not, _&&_, _||_}
 use mathlib.Core.List.{List, [], _∷_}
 use Prim.Native.Nat.{ℕ, _+_}
 use lib.Dec.{eqb}
 use lib.ListN.{getD}
-use Rattle.objset.specs.Objset.{some}
+use Rattle.objset.specs.Objset.{mostObjects, some}
 use Rattle.core.specs.declared.Answer.{Answer}
 use Rattle.core.specs.declared.Answer.the-variants.{Begun, Value, Written, Waits, Committed, SetBack, Ended}
 use Rattle.machine.specs.Answers.{kind, values}
 use Rattle.machine.specs.Record.{tally}
 use Rattle.machine.specs.Rule.{Call, Release, Begin, Read, Write, Commit, GiveUp, Finish}
+use Rattle.core.specs.Parts.{mostCores}
 
 -- a call and its answer
 pub record Event : Type 0 where
@@ -42,16 +43,16 @@ abbrev like : Answer → Answer → Bool
 like a b = eqb (kind a) (kind b)
 
 -- the first of an answer's values
-abbrev value : Answer → ℕ
-value a = getD (values a) 0 0
+abbrev firstValue : Answer → ℕ
+firstValue a = getD (values a) 0 0
 
 unfoldable pub amounts : Call → Answer → Deed
 amounts (Release c number deadline) a = other
 amounts (Begin c) a = cond (like a (Begun 0)) (begins c) other
-amounts (Read c d) a = cond (like a (Value 0 0)) (reads c d (value a)) (cond (like a SetBack) (told c) other)
+amounts (Read c d) a = cond (like a (Value 0 0)) (reads c d (firstValue a)) (cond (like a SetBack) (told c) other)
 amounts (Write c d v) a = cond (like a Written) (writes c d v) (cond (like a SetBack) (told c) other)
 amounts (Commit c) a =
-    cond (like a (Committed 0)) (commits c (value a)) (cond (like a (Waits 0)) (waits c (value a)) (cond (like a SetBack) (told c) other))
+    cond (like a (Committed 0)) (commits c (firstValue a)) (cond (like a (Waits 0)) (waits c (firstValue a)) (cond (like a SetBack) (told c) other))
 amounts (GiveUp c) a = cond (like a Ended) (gives c) other
 amounts (Finish c) a = other
 
@@ -147,7 +148,7 @@ born (x ∷ h) c = cond (beginsOn x c) (births h) (born h c)
 -- the number of earlier ones in progress when it was begun (demand 3: k)
 unfoldable pub ahead : List Deed → ℕ → ℕ
 ahead [] c = 0
-ahead (x ∷ h) c = cond (beginsOn x c) (tally 16 (inProgress h)) (ahead h c)
+ahead (x ∷ h) c = cond (beginsOn x c) (tally mostCores (inProgress h)) (ahead h c)
 
 -- ---- touched, written, conflict
 
@@ -186,7 +187,7 @@ wrote a d = any (λ x. stores x d) a
 
 -- attempt a has written a card that attempt b has touched
 unfoldable pub crosses : List Deed → List Deed → Bool
-crosses a b = some 64 (λ d. wrote a d && touched b d)
+crosses a b = some mostObjects (λ d. wrote a d && touched b d)
 
 -- ---- strikes and attempts
 

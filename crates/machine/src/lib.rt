@@ -1,6 +1,6 @@
 // The machine's record (document 01: the record that each call but setup takes and all hand back), what a call hands back, and the
 // eight calls. Each promise is an equation with the rule (specs/Rule.antt) for the answer,
-// the whole record and every word of both tables, for every record, sound or not, and every table length. Assumes nothing.
+// the whole record and every word of both tables, for every record, sound or not, and every table length.
 use crate::inside::calls::access;
 use crate::inside::calls::alone;
 use crate::inside::commit;
@@ -8,8 +8,10 @@ use crate::setup::clear;
 use crate::setup::fresh;
 use crate::soundness::is_sound;
 use core::Answer;
+use core::CORES;
 use core::Core;
 use core::calls::Act;
+use objset::OBJECTS;
 ghost use mathlib.Core.Path.{_≡_};
 ghost use mathlib.Core.Bool.{true, _&&_};
 ghost use Prim.Native.Nat.{ℕ, _*_};
@@ -20,8 +22,8 @@ ghost use Rattle.machine.specs.Rule.{lent, left};
 ghost use Rattle.machine.specs.Record.{blank, sizesInRange};
 ghost use Rattle.core.specs.declared.Answer.the-variants.{Ready, Refused, Waits};
 ghost use Rattle.machine.specs.Claims.{EveryRun};
-ghost use Rattle.machine.specs.Answers.{number, values, named};
-ghost use Rattle.machine.specs.Refusals.{Smallest, refusals, setupRefusals};
+ghost use Rattle.machine.specs.Answers.{coreNamed};
+ghost use Rattle.machine.specs.Refusals.{Numbered, NumberedSetup};
 ghost use mathlib.Core.List.{[]};
 
 pub mod inside;
@@ -36,9 +38,9 @@ pub struct Machine {
     pub tickets: u32,
     pub commits: u32,
     pub give_ups: u32,
-    pub core: [Core; 16],
+    pub core: [Core; CORES],
     // for each object the count of commits that wrote it
-    pub versions: [u32; 64],
+    pub versions: [u32; OBJECTS],
 }
 
 // What a call hands back: the record after it and its answer. The record stands first, which saves the compiler copies of it.
@@ -47,6 +49,11 @@ pub struct Outcome {
     pub answer: Answer,
 }
 
+// The most cores and objects, as setup takes them.
+const MOST_CORES: u32 = CORES as u32;
+
+const MOST_OBJECTS: u32 = OBJECTS as u32;
+
 // Whether a machine may have that many cores and cards.
 pub fn in_range(cores: u32, objects: u32) -> bool
     ensures { λ r. ⌜ r ≡ sizesInRange cores objects ⌝ }
@@ -54,13 +61,13 @@ pub fn in_range(cores: u32, objects: u32) -> bool
     if cores < 1 {
         return false;
     }
-    if 16 < cores {
+    if MOST_CORES < cores {
         return false;
     }
     if objects < 1 {
         return false;
     }
-    objects <= 64
+    objects <= MOST_OBJECTS
 }
 
 // Whether tables of these lengths fit a machine of that many cores and objects.
@@ -105,7 +112,7 @@ impl Machine {
     pub fn setup(cores: u32, objects: u32, committed: &mut [u32], pending: &mut [u32]) -> Outcome
         ensures rule { λ r. ⌜ left r (now (committed .exit)) (now (pending .exit)) ≡ Rule.setup cores objects (now (committed .entry)) (now (pending .entry)) ⌝ }
         ensures runs { λ r. ⌜ (r .answer ≡ Ready → EveryRun (lent (r .machine) (now (committed .exit)) (now (pending .exit)))) ⌝ }
-        ensures paper { λ r. ⌜ Smallest (number (r .answer)) (setupRefusals cores objects (now (committed .entry)) (now (pending .entry))) × (values (r .answer) ≡ values (Rule.setup cores objects (now (committed .entry)) (now (pending .entry)) .answer)) ⌝ }
+        ensures paper { λ r. ⌜ NumberedSetup cores objects (now (committed .entry)) (now (pending .entry)) (r .answer) ⌝ }
     {
         if in_range(cores, objects) {
             let n = cores as u8;
@@ -129,7 +136,7 @@ impl Machine {
     // 6 the core has 8 jobs. Refused, the record comes back as given.
     pub fn release(self, core: u32, job: u16, deadline: u32) -> Outcome
         ensures rule { λ r. ⌜ r ≡ Rule.release self core job deadline ⌝ }
-        ensures paper { λ r. ⌜ Smallest (number (r .answer)) (refusals (lent self [] []) (Rule.Release core job deadline)) × (values (r .answer) ≡ values (Rule.release self core job deadline .answer)) ⌝ }
+        ensures paper { λ r. ⌜ Numbered (lent self [] []) (Rule.Release core job deadline) (r .answer) ⌝ }
     {
         if !is_sound(self) {
             return Outcome {
@@ -144,7 +151,7 @@ impl Machine {
     // is in progress, 10 every ticket is given. Refused, the record comes back as given.
     pub fn begin(self, core: u32) -> Outcome
         ensures rule { λ r. ⌜ r ≡ Rule.begin self core ⌝ }
-        ensures paper { λ r. ⌜ Smallest (number (r .answer)) (refusals (lent self [] []) (Rule.Begin core)) × (values (r .answer) ≡ values (Rule.begin self core .answer)) ⌝ }
+        ensures paper { λ r. ⌜ Numbered (lent self [] []) (Rule.Begin core) (r .answer) ⌝ }
     {
         if !is_sound(self) {
             return Outcome {
@@ -160,7 +167,7 @@ impl Machine {
     // such card, 9 none in progress. Both tables keep every word; refused, the record comes back as given.
     pub fn read(self, core: u32, object: u32, committed: &mut [u32], pending: &mut [u32]) -> Outcome
         ensures rule { λ r. ⌜ left r (now (committed .exit)) (now (pending .exit)) ≡ Rule.read (lent self (now (committed .entry)) (now (pending .entry))) core object ⌝ }
-        ensures paper { λ r. ⌜ Smallest (number (r .answer)) (refusals (lent self (now (committed .entry)) (now (pending .entry))) (Rule.Read core object)) × (values (r .answer) ≡ values (Rule.read (lent self (now (committed .entry)) (now (pending .entry))) core object .answer)) ⌝ }
+        ensures paper { λ r. ⌜ Numbered (lent self (now (committed .entry)) (now (pending .entry))) (Rule.Read core object) (r .answer) ⌝ }
     {
         if !is_sound(self) {
             return Outcome {
@@ -189,7 +196,7 @@ impl Machine {
         pending: &mut [u32],
     ) -> Outcome
         ensures rule { λ r. ⌜ left r (now (committed .exit)) (now (pending .exit)) ≡ Rule.write (lent self (now (committed .entry)) (now (pending .entry))) core object value ⌝ }
-        ensures paper { λ r. ⌜ Smallest (number (r .answer)) (refusals (lent self (now (committed .entry)) (now (pending .entry))) (Rule.Write core object value)) × (values (r .answer) ≡ values (Rule.write (lent self (now (committed .entry)) (now (pending .entry))) core object value .answer)) ⌝ }
+        ensures paper { λ r. ⌜ Numbered (lent self (now (committed .entry)) (now (pending .entry))) (Rule.Write core object value) (r .answer) ⌝ }
     {
         if !is_sound(self) {
             return Outcome {
@@ -210,9 +217,9 @@ impl Machine {
     // record, 3 wrong table, 4 no such core, 9 none in progress. The pending table keeps every word; so does the committed one
     // where the transaction does not commit; refused, the record comes back as given.
     pub fn commit(self, core: u32, committed: &mut [u32], pending: &mut [u32]) -> Outcome
-        ensures rule { λ r. ⌜ left r (now (committed .exit)) (now (pending .exit)) ≡ Rule.commit (named (r .answer)) (lent self (now (committed .entry)) (now (pending .entry))) core ⌝ }
+        ensures rule { λ r. ⌜ left r (now (committed .exit)) (now (pending .exit)) ≡ Rule.commit (coreNamed (r .answer)) (lent self (now (committed .entry)) (now (pending .entry))) core ⌝ }
         ensures waits { λ r. ⌜ ((e : ℕ) → r .answer ≡ Waits e → Rule.contender self core e ≡ true) ⌝ }
-        ensures paper { λ r. ⌜ Smallest (number (r .answer)) (refusals (lent self (now (committed .entry)) (now (pending .entry))) (Rule.Commit core)) × (values (r .answer) ≡ values (Rule.commit (named (r .answer)) (lent self (now (committed .entry)) (now (pending .entry))) core .answer)) ⌝ }
+        ensures paper { λ r. ⌜ Numbered (lent self (now (committed .entry)) (now (pending .entry))) (Rule.Commit core) (r .answer) ⌝ }
     {
         if !is_sound(self) {
             return Outcome {
@@ -233,7 +240,7 @@ impl Machine {
     // given.
     pub fn give_up(self, core: u32) -> Outcome
         ensures rule { λ r. ⌜ r ≡ Rule.giveUp self core ⌝ }
-        ensures paper { λ r. ⌜ Smallest (number (r .answer)) (refusals (lent self [] []) (Rule.GiveUp core)) × (values (r .answer) ≡ values (Rule.giveUp self core .answer)) ⌝ }
+        ensures paper { λ r. ⌜ Numbered (lent self [] []) (Rule.GiveUp core) (r .answer) ⌝ }
     {
         if !is_sound(self) {
             return Outcome {
@@ -248,7 +255,7 @@ impl Machine {
     // the core has no job, 8 a transaction is in progress. Refused, the record comes back as given.
     pub fn finish(self, core: u32) -> Outcome
         ensures rule { λ r. ⌜ r ≡ Rule.finish self core ⌝ }
-        ensures paper { λ r. ⌜ Smallest (number (r .answer)) (refusals (lent self [] []) (Rule.Finish core)) × (values (r .answer) ≡ values (Rule.finish self core .answer)) ⌝ }
+        ensures paper { λ r. ⌜ Numbered (lent self [] []) (Rule.Finish core) (r .answer) ⌝ }
     {
         if !is_sound(self) {
             return Outcome {

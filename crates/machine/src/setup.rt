@@ -1,6 +1,8 @@
-// A new machine: no jobs, no transactions, all versions and both tables zero. Assumes nothing.
+// A new machine: no jobs, no transactions, all versions and both tables zero.
 use crate::Machine;
+use core::CORES;
 use core::Core;
+use objset::OBJECTS;
 ghost use mathlib.Core.Path.{_≡_};
 ghost use lib.ListN.{length, replicate};
 ghost use Rattle.machine.specs.Record.{machineOf};
@@ -16,8 +18,8 @@ pub fn fresh(cores: u8, objects: u8) -> Machine
         tickets: 0,
         commits: 0,
         give_ups: 0,
-        core: [idle; 16],
-        versions: [0; 64],
+        core: [idle; CORES],
+        versions: [0; OBJECTS],
     }
 }
 

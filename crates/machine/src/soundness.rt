@@ -1,30 +1,25 @@
 // The soundness test: whether a record, whatever its fields hold, keeps the standing rules (document 01). Each promise is an
-// equation with the rules' own definitions in specs/Sound.antt. Assumes nothing.
+// equation with the rules' own definitions in specs/Sound.antt.
 use crate::Machine;
 use crate::in_range;
+use core::CORES;
 use core::is_blank;
 use core::is_tidy;
+use objset::OBJECTS;
 ghost use mathlib.Core.Path.{_≡_};
-ghost use mathlib.Core.Bool.{not, _&&_};
-ghost use Prim.Native.Nat.{_+_, _<_};
-ghost use lib.Dec.{eqb, ltb};
-ghost use Rattle.objset.specs.Objset.{each};
-ghost use Rattle.machine.specs.Record.{coreAt};
-ghost use Rattle.core.specs.Tidy.{_⇒_};
-ghost use Rattle.machine.specs.Sound.{ahead, sound};
-ghost use Rattle.machine.specs.Sound.{setsWithin, ownerListed, idleClear, zombieEmpty, atMostEight};
-ghost use Rattle.machine.specs.Sound.{unusedJobs, ownerFirst, lackedCores, versionsBounded, lackedObjects};
-ghost use Rattle.machine.specs.Sound.{ticketsDiffer, ticketsGiven, abortsBounded, ticketsCounted};
+ghost use Prim.Native.Nat.{_<_};
+ghost use Rattle.machine.specs.Sound.{cardsSound, turnKept, coresSound, sound};
+ghost use Rattle.core.specs.Parts.{mostCores};
 
 // Whether no version exceeds the commits, and the places for objects (document 01: cards) that the machine lacks hold zeros. The loop is
 // not left early: so the compiler compares several at a time.
 fn versions_bounded(m: Machine) -> bool
-    ensures { λ r. ⌜ r ≡ (versionsBounded m && lackedObjects m) ⌝ }
+    ensures { λ r. ⌜ r ≡ cardsSound m ⌝ }
 {
     let objects = m.objects as usize;
     let mut kept = true;
     let mut d: usize = 0;
-    while d < 64 {
+    while d < OBJECTS {
         let most = if d < objects { m.commits } else { 0 };
         if most < m.versions[d] {
             kept = false;
@@ -36,15 +31,14 @@ fn versions_bounded(m: Machine) -> bool
 
 // Whether a transaction on core c keeps the rules that tie those in progress: its ticket differs from those before it and is
 // smaller than the count of tickets given, and its aborts (document 01: setbacks) plus the number of smaller tickets in progress are
-// at most cores - 1. The loop goes over all 16: with a constant bound the compiler makes no copy of the record here.
+// at most cores - 1. The loop goes over all of them: with a constant bound the compiler makes no copy of the record here.
 fn turn_kept(m: Machine, c: usize, ticket: u32, aborts: u8) -> bool
-    requires { ⌜ c < 16 ⌝ }
-    ensures { λ r. ⌜ r ≡ (each c (λ e. coreAt m e .active ⇒ not (eqb ticket (coreAt m e .ticket))) && ltb ticket (m .tickets)
-        && ltb (aborts + ahead m ticket) (m .cores)) ⌝ }
+    requires { ⌜ c < mostCores ⌝ }
+    ensures { λ r. ⌜ r ≡ turnKept m c ticket aborts ⌝ }
 {
     let mut n = aborts as usize;
     let mut e: usize = 0;
-    while e < 16 {
+    while e < CORES {
         let k = m.core[e];
         if k.active {
             if k.ticket < ticket {
@@ -66,13 +60,12 @@ fn turn_kept(m: Machine, c: usize, ticket: u32, aborts: u8) -> bool
 // Whether each core is tidy and its transaction keeps those rules, each core that the machine lacks is blank, and the count of tickets
 // given is commits + give-ups + transactions in progress.
 fn cores_kept(m: Machine) -> bool
-    ensures { λ r. ⌜ r ≡ ((setsWithin m && ownerListed m && idleClear m && zombieEmpty m && atMostEight m && unusedJobs m
-        && ownerFirst m && lackedCores m) && (ticketsDiffer m && ticketsGiven m && abortsBounded m) && ticketsCounted m) ⌝ }
+    ensures { λ r. ⌜ r ≡ coresSound m ⌝ }
 {
     let cores = m.cores as usize;
     let mut n: u64 = 0;
     let mut c: usize = 0;
-    while c < 16 {
+    while c < CORES {
         if c < cores {
             let k = m.core[c];
             if !is_tidy(k, m.objects) {

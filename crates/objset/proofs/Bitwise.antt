@@ -1,4 +1,4 @@
--- The bitwise operators on 64-bit words are the definitions by membership. Assumes nothing.
+-- The bitwise operators on 64-bit words are the definitions by membership.
 use mathlib.Core.Path.{_≡_, refl, sym, ap, ap₂, _∙_, subst}
 use mathlib.Core.Bool.{Bool, true, false, not, _&&_, _||_, true≢false}
 use Prim.Native.Nat.{ℕ, zero, suc, _*_, _%_, _^_, _≤_, _<_}

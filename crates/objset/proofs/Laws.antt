@@ -1,5 +1,5 @@
 -- What callers may use of the definitions of specs/Objset.antt: every law speaks of membership alone.
--- A set is a word below 2 to the power 64, as each u64 is. Assumes nothing.
+-- A set is a word below 2 to the power 64, as each u64 is.
 use mathlib.Core.Path.{_≡_, refl, sym, ap, ap₂, _∙_, fun-ext}
 use mathlib.Core.Bool.{Bool, true, false, not, _&&_, _||_, true≢false}
 use Prim.Native.Nat.{ℕ, zero, suc, _^_, _≤_, _<_}

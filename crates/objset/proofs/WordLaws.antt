@@ -1,4 +1,4 @@
--- The laws of joining and meeting over any number of words. Assumes nothing.
+-- The laws of joining and meeting over any number of words.
 use mathlib.Core.Path.{_≡_, refl, sym, ap, ap₂, _∙_}
 use mathlib.Core.Bool.{Bool, true, false, _||_, true≢false}
 use mathlib.Core.List.{List, [], _∷_}

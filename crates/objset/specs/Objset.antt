@@ -1,5 +1,4 @@
 -- Sets of objects (document 01: sets of cards), said by membership of each object from 0 to 63.
--- Assumes nothing.
 use mathlib.Core.Bool.{Bool, true, false, cond, not, _&&_, _||_}
 use Prim.Native.Nat.{ℕ, zero, suc, _+_, _/_, _%_, _^_}
 use lib.Dec.{eqb, ltb}
@@ -23,22 +22,26 @@ unfoldable pub each : ℕ → (ℕ → Bool) → Bool
 each zero f = true
 each (suc n) f = f n && each n f
 
+-- how many objects there are at most (document 01: 64 cards)
+abbrev pub mostObjects : ℕ
+mostObjects = 64
+
 -- the empty set
 unfoldable pub none : ℕ
-none = collect 64 (λ e. false)
+none = collect mostObjects (λ e. false)
 
 -- the set s with object d added
 unfoldable pub added : ℕ → ℕ → ℕ
-added s d = collect 64 (λ e. has s e || eqb e d)
+added s d = collect mostObjects (λ e. has s e || eqb e d)
 
 -- the objects of both sets together
 unfoldable pub joined : ℕ → ℕ → ℕ
-joined a b = collect 64 (λ e. has a e || has b e)
+joined a b = collect mostObjects (λ e. has a e || has b e)
 
 -- some object is in both sets
 unfoldable pub meeting : ℕ → ℕ → Bool
-meeting a b = some 64 (λ e. has a e && has b e)
+meeting a b = some mostObjects (λ e. has a e && has b e)
 
 -- the set lies within the first n objects
 unfoldable pub below : ℕ → ℕ → Bool
-below s n = each 64 (λ e. not (has s e) || ltb e n)
+below s n = each mostObjects (λ e. not (has s e) || ltb e n)

@@ -1,5 +1,5 @@
 -- Joining and meeting over any number of words: object d stands in word d / 64 at place d % 64. A set of one word is the
--- list of that word. Assumes nothing.
+-- list of that word.
 use mathlib.Core.Bool.{Bool, false, _||_}
 use mathlib.Core.List.{List, [], _∷_}
 use Prim.Native.Nat.{ℕ, _/_, _%_, _^_, _<_}

@@ -1,12 +1,15 @@
 // Sets of objects (document 01: sets of cards) as 64-bit words: object d is in the set if and only if the word's digit d,
 // of weight 2 to the power d, is 1. A set holds objects from 0 to 63; any other number is outside every set.
-// Each promise is an equation with a definition of specs/Objset.antt that speaks of membership alone. Assumes nothing.
+// Each promise is an equation with a definition of specs/Objset.antt that speaks of membership alone.
 ghost use mathlib.Core.Path.{_≡_};
 ghost use Prim.Native.Nat.{_^_, _<_};
-ghost use Rattle.objset.specs.Objset.{has, none, added, joined, meeting, below};
+ghost use Rattle.objset.specs.Objset.{mostObjects, has, none, added, joined, meeting, below};
+
+// How many objects there are at most: the digits of a word.
+pub const OBJECTS: usize = 64;
 
 // The sixty-four masks (document 01: marks): entry d is 2 to the power d.
-const MASKS: [u64; 64] = [
+const MASKS: [u64; OBJECTS] = [
     1,
     2,
     4,
@@ -75,7 +78,7 @@ const MASKS: [u64; 64] = [
 
 // The mask of object d.
 fn mask(d: usize) -> u64
-    requires { ⌜ d < 64 ⌝ }
+    requires { ⌜ d < mostObjects ⌝ }
     ensures { λ r. ⌜ r ≡ 2 ^ d ⌝ }
 {
     MASKS[d]
@@ -92,14 +95,18 @@ pub fn empty() -> u64
 pub fn contains(s: u64, d: usize) -> bool
     ensures { λ r. ⌜ r ≡ has s d ⌝ }
 {
-    if d < 64 { (s >> d) % 2 == 1 } else { false }
+    if d < OBJECTS {
+        (s >> d) % 2 == 1
+    } else {
+        false
+    }
 }
 
 // The set s with object d added: s itself, where d is 64 or more.
 pub fn insert(s: u64, d: usize) -> u64
     ensures { λ r. ⌜ r ≡ added s d ⌝ }
 {
-    if d < 64 { s | mask(d) } else { s }
+    if d < OBJECTS { s | mask(d) } else { s }
 }
 
 // The objects that are in a, in b, or in both.
@@ -120,5 +127,5 @@ pub fn meets(a: u64, b: u64) -> bool
 pub fn within(s: u64, n: usize) -> bool
     ensures { λ r. ⌜ r ≡ below s n ⌝ }
 {
-    if n < 64 { s < (1 << n) } else { true }
+    if n < OBJECTS { s < (1 << n) } else { true }
 }

@@ -8,13 +8,13 @@ use Prim.Native.Nat.{ℕ, zero, suc, _*_}
 use lib.ListN.{length, take, drop}
 use lib.Seq.{take-at, length-front}
 use Rattle.machine.specs.Record.{coreAt}
-use Rattle.machine.specs.Rule.{World, Result, lent, rule, commit, commitRefusal, unlessLent, told, waiting, through, blocked, Call, Release, Begin, Read, Write, Commit, GiveUp, Finish}
+use Rattle.machine.specs.Rule.{World, Result, lent, rule, commit, commitRefusal, unlessLent, setBackTold, waiting, through, blocked, Call, Release, Begin, Read, Write, Commit, GiveUp, Finish}
 use Rattle.machine.specs.Follows.{Follows}
-use Rattle.machine.specs.Answers.{named}
+use Rattle.machine.specs.Answers.{coreNamed}
 use Rattle.machine.specs.declared.Machine.{Machine}
 use Rattle.machine.specs.declared.Outcome.{Outcome}
 use Rattle.machine.proofs.Case.{case-of}
-use Rattle.machine.specs.Inside.{Good}
+use Rattle.machine.specs.Inside.{WellFormedWorld}
 use Rattle.machine.proofs.Sound.Keeps.{keeps-good}
 use Rattle.listing.specs.Text.{said}
 use Rattle.runner.specs.Kept.{held, over, Held}
@@ -38,13 +38,13 @@ commit-alike e b w c = refused (commitRefusal w c) (coreAt (w .machine) c .zombi
     kept false = (refl, refl)
 
     marked : (z held : Bool)
-        → Alike (cond z (told w c) (cond held (waiting w e) (through w c))) (cond z (told w c) (cond held (waiting w b) (through w c)))
+        → Alike (cond z (setBackTold w c) (cond held (waiting w e) (through w c))) (cond z (setBackTold w c) (cond held (waiting w b) (through w c)))
     marked true held = (refl, refl)
     marked false held = kept held
 
     refused : (n : ℕ) (z held : Bool)
-        → Alike (unlessLent n w (cond z (told w c) (cond held (waiting w e) (through w c))))
-        (unlessLent n w (cond z (told w c) (cond held (waiting w b) (through w c))))
+        → Alike (unlessLent n w (cond z (setBackTold w c) (cond held (waiting w e) (through w c))))
+        (unlessLent n w (cond z (setBackTold w c) (cond held (waiting w b) (through w c))))
     refused zero z held = unfold unlessLent in marked z held
     refused (suc n) z held = unfold unlessLent in (refl, refl)
 
@@ -60,10 +60,10 @@ rule-alike e b w (GiveUp c) = (refl, refl)
 rule-alike e b w (Finish c) = (refl, refl)
 
 -- the words that a machine holds of tables that begin with its own
-pub front-held : (m : Machine) (cs ps more more′ : List ℕ) → Good (lent m cs ps) → held m (cs ++ more) (ps ++ more′) ≡ lent m cs ps
+pub front-held : (m : Machine) (cs ps more more′ : List ℕ) → WellFormedWorld (lent m cs ps) → held m (cs ++ more) (ps ++ more′) ≡ lent m cs ps
 front-held m cs ps more more′ g =
-    ap (λ (x : List ℕ). lent m x (take (m .cores * m .objects) (ps ++ more′))) (take-at cs more (m .objects) (g .committed-long))
-    ∙ ap (λ (x : List ℕ). lent m cs x) (take-at ps more′ (m .cores * m .objects) (g .pending-long))
+    ap (λ (x : List ℕ). lent m x (take (m .cores * m .objects) (ps ++ more′))) (take-at cs more (m .objects) (g .world-sound .committed-long))
+    ∙ ap (λ (x : List ℕ). lent m cs x) (take-at ps more′ (m .cores * m .objects) (g .world-sound .pending-long))
 
 -- what a call promises of its answer, its record and the whole tables, cs₀ and ps₀ before it and cs and ps after it
 abbrev pub Done : List ℕ → List ℕ → Result → Outcome → List ℕ → List ℕ → Type 0
@@ -81,13 +81,13 @@ pub done-same : (cs₀ ps₀ : List ℕ) (x : Result) {r r′ : Outcome} {cs cs�
     → Done cs₀ ps₀ x r cs ps
 done-same cs₀ ps₀ x a b c d = rw (a, b, c) d
 
-module _ (m : Machine) (cs ps : List ℕ) (g : Good (held m cs ps)) (cl : length cs ≡ 64) (pl : length ps ≡ 1024) (call : Call) (r : Outcome) (e : ℕ) where
+module _ (m : Machine) (cs ps : List ℕ) (g : WellFormedWorld (held m cs ps)) (cl : length cs ≡ 64) (pl : length ps ≡ 1024) (call : Call) (r : Outcome) (e : ℕ) where
   -- the call was lent the first words, and left them as cs′ and ps′
   pub acted : (cs′ ps′ : List ℕ) → length cs′ ≡ length (take (m .objects) cs) → length ps′ ≡ length (take (m .cores * m .objects) ps)
       → Follows (held m cs ps) call (r .answer) (lent (r .machine) cs′ ps′)
       → Done cs ps (rule e (held m cs ps) call) r (cs′ ++ drop (m .objects) cs) (ps′ ++ drop (m .cores * m .objects) ps)
   acted cs′ ps′ cl′ pl′ f =
-      let alike = rule-alike (named (r .answer)) e (held m cs ps) call in
+      let alike = rule-alike (coreNamed (r .answer)) e (held m cs ps) call in
       let g′ = keeps-good (case-of f) g in
       let front = front-held (r .machine) cs′ ps′ (drop (m .objects) cs) (drop (m .cores * m .objects) ps) g′ in (
         ap said (f .answer-is) ∙ alike .0,
@@ -97,7 +97,7 @@ module _ (m : Machine) (cs ps : List ℕ) (g : Good (held m cs ps)) (cl : length
             record {
               committed-long = length-front cs cs′ (m .objects) cl′ ∙ cl;
               pending-long = length-front ps ps′ (m .cores * m .objects) pl′ ∙ pl;
-              blank-or-good = inr (subst Good (sym front) g′);
+              blank-or-good = inr (subst WellFormedWorld (sym front) g′);
             },
             (
               over-front (m .objects) cs cs′ _ cl′ (ap (λ (x : World). x .committed) (f .world-is ∙ alike .1)),

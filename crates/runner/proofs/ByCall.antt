@@ -8,7 +8,7 @@ use Rattle.machine.specs.Rule.{lent, firstAhead, coreOf}
 use Rattle.machine.specs.Follows.{Follows}
 use Rattle.machine.specs.declared.Machine.{Machine}
 use Rattle.machine.specs.declared.Outcome.{Outcome}
-use Rattle.machine.specs.Inside.{Good}
+use Rattle.machine.specs.Inside.{WellFormedWorld}
 use Rattle.listing.specs.Text.{said}
 use Rattle.runner.specs.Kept.{held}
 use Rattle.runner.specs.Listing.{Request, Anew, Asks, met}
@@ -24,7 +24,7 @@ module _ (m : Machine) (cs ps : List ℕ) (r : Outcome) (cs′ ps′ : List ℕ)
   unfolding met
   setup-done cores cards d = (ap said (d .0), d .1)
 
-module _ (m : Machine) (cs ps : List ℕ) (g : Good (held m cs ps)) (cl : length cs ≡ 64) (pl : length ps ≡ 1024) (r : Outcome) where
+module _ (m : Machine) (cs ps : List ℕ) (g : WellFormedWorld (held m cs ps)) (cl : length cs ≡ 64) (pl : length ps ≡ 1024) (r : Outcome) where
   abbrev dl : ℕ
   dl = m .objects
 

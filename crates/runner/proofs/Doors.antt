@@ -13,7 +13,7 @@ use Rattle.machine.specs.Record.{blank}
 use Rattle.core.specs.Tidy.{_⇒_}
 use Rattle.machine.specs.Sound.{sound}
 use Rattle.machine.specs.declared.Machine.{Machine}
-use Rattle.machine.specs.Inside.{Formed, Good}
+use Rattle.machine.specs.Inside.{Formed, WellFormedWorld}
 use Rattle.core.proofs.TestLaws.{if-true, true-if, both}
 use Rattle.machine.proofs.Sound.Standing.{Standing, standing}
 use Rattle.script.specs.Pieces.{free}
@@ -111,25 +111,28 @@ module _ (r : Reading) where
     few on = leb-true (r .number) (mostLines + 1) (if-true (r .going) _ (p .lines-few) on)
 
     -- a sound machine, after line 1
-    good : eqb (r .machine .cores) 0 ≡ false → Good (held (r .machine) cs ps)
+    good : eqb (r .machine .cores) 0 ≡ false → WellFormedWorld (held (r .machine) cs ps)
     good i =
         let is = both (ltb 1 (r .number)) (sound (r .machine)) (either _ _ i (p .machine-own)) .1 in
         let rules : Standing (r .machine) = standing is in
         record {
+          world-sound =
+              record {
+                is-sound = is;
+                committed-long = length-take-le (r .machine .objects) cs (subst (λ (n : ℕ). r .machine .objects ≤ n) (sym committed) (rules .few-objects));
+                pending-long =
+                    length-take-le (r .machine .cores * r .machine .objects) ps
+                    (subst (λ (n : ℕ). r .machine .cores * r .machine .objects ≤ n) (sym pending)
+                    (few-words (r .machine .cores) (r .machine .objects) (rules .few-cores) (rules .few-objects)));
+              };
           formed = formed;
-          is-sound = is;
-          committed-long = length-take-le (r .machine .objects) cs (subst (λ (n : ℕ). r .machine .objects ≤ n) (sym committed) (rules .few-objects));
-          pending-long =
-              length-take-le (r .machine .cores * r .machine .objects) ps
-              (subst (λ (n : ℕ). r .machine .cores * r .machine .objects ≤ n) (sym pending)
-              (few-words (r .machine .cores) (r .machine .objects) (rules .few-cores) (rules .few-objects)));
         }
 
     passed-fit : Fit (cleared r) cs ps
     unfolding cleared
     passed-fit = go (eqb (r .machine .cores) 0) refl
       where
-        fit : (m : Machine) → (m ≡ blank) ⊎ Good (held m cs ps) → (r .number ≡ 1 → m ≡ blank)
+        fit : (m : Machine) → (m ≡ blank) ⊎ WellFormedWorld (held m cs ps) → (r .number ≡ 1 → m ≡ blank)
             → Fit (record { going = r .going; columns = r .columns; number = r .number; line = r .line; length = r .length; machine = m }) cs ps
         fit m h first =
             record {
@@ -162,14 +165,14 @@ module _ (r : Reading) (cs ps : List ℕ) (f : Fit r cs ps) where
   no-cores : r .machine ≡ blank → eqb (r .machine .cores) 0 ≡ true
   no-cores b = eq-eqb (r .machine .cores) 0 (ap (λ (m : Machine). m .cores) b)
 
-  cores : Good (held (r .machine) cs ps) → 0 < r .machine .cores
-  cores g = standing (g .is-sound) .some-cores
+  cores : WellFormedWorld (held (r .machine) cs ps) → 0 < r .machine .cores
+  cores g = standing (g .world-sound .is-sound) .some-cores
 
-  some-cores : Good (held (r .machine) cs ps) → eqb (r .machine .cores) 0 ≡ false
+  some-cores : WellFormedWorld (held (r .machine) cs ps) → eqb (r .machine .cores) 0 ≡ false
   some-cores g = ne-eqb (r .machine .cores) 0 (λ e. omega (arith, e, cores g))
 
   -- a machine comes after line 1
-  later : Good (held (r .machine) cs ps) → 1 < r .number
+  later : WellFormedWorld (held (r .machine) cs ps) → 1 < r .number
   later g = go (ltb 1 (r .number)) refl
     where
       go : (b : Bool) → ltb 1 (r .number) ≡ b → 1 < r .number
@@ -181,7 +184,7 @@ module _ (r : Reading) (cs ps : List ℕ) (f : Fit r cs ps) where
   machine-fits : own-machine r ≡ true
   machine-fits =
       ⊎-elim (λ b. rw (no-cores b) refl)
-      (λ g. rw (some-cores g, lt-ltb 1 (r .number) (later g), g .is-sound) refl) (f .holds .blank-or-good)
+      (λ g. rw (some-cores g, lt-ltb 1 (r .number) (later g), g .world-sound .is-sound) refl) (f .holds .blank-or-good)
 
   fit-readable : readable r ≡ true
   unfolding readable

@@ -20,13 +20,12 @@ use Rattle.machine.specs.declared.inside.calls.Found.{Found}
 use Rattle.machine.specs.Record.{coreAt}
 use Rattle.machine.specs.Rule as Rule
 use Rattle.machine.specs.Rule.{changed}
-use Rattle.machine.specs.Inside.{Good}
-use Rattle.machine.specs.OneCore.{callOf, found, firstHolding, strikes}
+use Rattle.machine.specs.Inside.{WellFormedWorld}
+use Rattle.machine.specs.OneCore.{callOf, found, firstHolding, struckAll}
 use Rattle.machine.proofs.Binds.{act-follows, commit-follows}
 use Rattle.machine.proofs.CoreCalls.{by-core-at, to-core, to-object, to-slot}
 use Rattle.machine.proofs.CommitLaws.{by-commit-at, row-within}
 use Rattle.machine.proofs.Entries.{changed-long}
-use Rattle.machine.proofs.InsideLaws.{fine}
 use Rattle.runner.specs.Kept.{held}
 use Rattle.runner.specs.Listing.{Asks}
 use Rattle.runner.proofs.ByCall.{ByRequest, lent-done}
@@ -58,7 +57,7 @@ changed-front ws f g (suc n) i (x ∷ xs) same within =
     ap₂ _∷_ (ap (λ (v : ℕ). cond (has ws i) v x) (same i x (omega arith)))
     (changed-front ws f g n (suc i) xs (λ d v l. same d v (omega (arith, l))) (λ d l p. omega (arith, within d (omega (arith, l)) p)))
 
-module _ (m : Machine) (cs ps : List ℕ) (g : Good (held m cs ps)) (cl : length cs ≡ 64) (pl : length ps ≡ 1024) (c : ℕ) where
+module _ (m : Machine) (cs ps : List ℕ) (g : WellFormedWorld (held m cs ps)) (cl : length cs ≡ 64) (pl : length ps ≡ 1024) (c : ℕ) where
   abbrev dl : ℕ
   dl = m .objects
 
@@ -101,13 +100,13 @@ module _ (m : Machine) (cs ps : List ℕ) (g : Good (held m cs ps)) (cl : length
       (subst (λ (y : List ℕ). ByRequest m cs ps (Asks (callOf a c)) (backed to r) (take dl cs ++ drop dl cs) y) (sym (front-set nl _ (r .pending) ps slot-there))
       (lent-done m cs ps g cl pl (backed to r) (callOf a c) (take dl cs) (set (take nl ps) (to .core * m .objects + to .object) (r .pending)) refl
       (length-set (take nl ps) _ (r .pending))
-      (act-follows (held m cs ps) a c (r .answer) _ (by-core-at (held m cs ps) (fine g) a c d to (saw to) r p q seen-front h))))
+      (act-follows (held m cs ps) a c (r .answer) _ (by-core-at (held m cs ps) (g .world-sound) a c d to (saw to) r p q seen-front h))))
     where
       slot-there : to .core * m .objects + to .object < length (take nl ps)
-      slot-there = omega (arith, to-slot m (g .is-sound) c d to q, g .pending-long)
+      slot-there = omega (arith, to-slot m (g .world-sound .is-sound) c d to q, g .world-sound .pending-long)
 
       object-there : to .object < length (take dl cs)
-      object-there = omega (arith, to-object m (g .is-sound) c d to q, g .committed-long)
+      object-there = omega (arith, to-object m (g .world-sound .is-sound) c d to q, g .world-sound .committed-long)
 
       seen-front : saw to ≡ record {
         tickets = m .tickets;
@@ -146,12 +145,12 @@ module _ (m : Machine) (cs ps : List ℕ) (g : Good (held m cs ps)) (cl : length
   pub commit-done : (to : Found) (e : ℕ) (r : Settled) → to ≡ found c 0 (m .cores) (m .objects)
       → e ≡ firstHolding (m .core) (coreAt m (to .core)) → r ≡ commitOn (to .refusal) (coreAt m (to .core)) e
       → ((d : ℕ) → d < 64 → has (r .writes) d ≡ true → d < m .objects)
-      → (cores : List Core) (versions words : List ℕ) → cores ≡ strikes (r .writes) (set (m .core) (to .core) (r .core))
+      → (cores : List Core) (versions words : List ℕ) → cores ≡ struckAll (r .writes) (set (m .core) (to .core) (r .core))
       → versions ≡ changed (r .writes) (λ d v. v + 1) 0 (m .versions)
       → words ≡ changed (r .writes) (λ d v. getD ps (to .core * m .objects + d) 0) 0 cs
       → ByRequest m cs ps (Asks (Rule.Commit c)) (carried r cores versions) words ps
   commit-done to e r p q h within cores versions words x y z =
-      let by = by-commit-at (held m cs ps) (fine g) (g .formed .core-long) c to e r p q h in
+      let by = by-commit-at (held m cs ps) (g .world-sound) (g .formed .core-long) c to e r p q h in
       subst (λ (t : List ℕ). ByRequest m cs ps (Asks (Rule.Commit c)) (carried r cores versions) words t) (take-append-drop nl ps)
       (subst (λ (t : List ℕ). ByRequest m cs ps (Asks (Rule.Commit c)) (carried r cores versions) t (take nl ps ++ drop nl ps)) (sym (z ∙ front))
       (lent-done m cs ps g cl pl (carried r cores versions) (Rule.Commit c) (moved-words to r) (take nl ps) (changed-long (r .writes) _ 0 (take dl cs)) refl
@@ -159,7 +158,7 @@ module _ (m : Machine) (cs ps : List ℕ) (g : Good (held m cs ps)) (cl : length
     where
       word : (d : ℕ) → d < dl → getD ps (to .core * m .objects + d) 0 ≡ getD (take nl ps) (to .core * m .objects + d) 0
       word d l =
-          sym (front-word nl _ ps (omega (arith, l, row-within (to .core) (m .cores) (m .objects) (to-core m (g .is-sound) c 0 to p), g .pending-long)))
+          sym (front-word nl _ ps (omega (arith, l, row-within (to .core) (m .cores) (m .objects) (to-core m (g .world-sound .is-sound) c 0 to p), g .world-sound .pending-long)))
 
       front : changed (r .writes) (λ d v. getD ps (to .core * m .objects + d) 0) 0 cs ≡ moved-words to r ++ drop dl cs
       front =

@@ -14,7 +14,7 @@ use Rattle.machine.specs.Rule.{Result, lent, left, setup, unlessLent, misfit}
 use Rattle.core.specs.Calls.{first}
 use Rattle.machine.specs.declared.Outcome.{Outcome}
 use Rattle.core.specs.declared.Answer.the-variants.{Ready, Refused}
-use Rattle.machine.specs.Inside.{Good}
+use Rattle.machine.specs.Inside.{WellFormedWorld}
 use Rattle.machine.proofs.InsideLaws.{setup-left}
 use Rattle.machine.proofs.Sound.Passed.{in-range}
 use Rattle.runner.specs.Kept.{held, over, Held}
@@ -99,7 +99,7 @@ module _ (cores cards : ℕ) (cs ps : List ℕ) (cl : length cs ≡ 64) (pl : le
             record {
               committed-long = length-front cs cs′ cards cl′ ∙ cl;
               pending-long = length-front ps ps′ (cores * cards) pl′ ∙ pl;
-              blank-or-good = inr (subst Good (sym front) g);
+              blank-or-good = inr (subst WellFormedWorld (sym front) g);
             },
             (
               over-front cards cs cs′ _ cl′ (ap (λ (x : Result). x .world .committed) made),

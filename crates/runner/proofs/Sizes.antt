@@ -5,7 +5,7 @@ use mathlib.Core.List.{List}
 use Prim.Native.Nat.{ℕ, _*_, _≤_}
 use native.Mathlib.Omega.{arith}
 use Rattle.machine.specs.declared.Machine.{Machine}
-use Rattle.machine.specs.Inside.{Good}
+use Rattle.machine.specs.Inside.{WellFormedWorld}
 use Rattle.machine.proofs.Sound.Keeps.{whole}
 use Rattle.runner.specs.Listing.{nothing}
 use Rattle.runner.specs.Kept.{held, Held}
@@ -22,5 +22,5 @@ module _ (m : Machine) (cs ps : List ℕ) (h : Held m cs ps) where
   nothing-if-none e =
       ap (λ (x : Machine). held x cs ps) (⊎-elim (λ b. b) (λ g. absurd (omega (arith, e, whole g .rules .some-cores))) (h .blank-or-good))
 
-  pub good-if-some : (m .cores ≡ 0 → ⊥) → Good (held m cs ps)
+  pub good-if-some : (m .cores ≡ 0 → ⊥) → WellFormedWorld (held m cs ps)
   good-if-some e = ⊎-elim (λ b. absurd (e (ap (λ (x : Machine). x .cores) b))) (λ g. g) (h .blank-or-good)

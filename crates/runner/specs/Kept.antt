@@ -9,7 +9,7 @@ use lib.ListN.{length, take, drop, set, replicate}
 use Rattle.machine.specs.Record.{blank}
 use Rattle.machine.specs.Rule.{World, lent}
 use Rattle.machine.specs.declared.Machine.{Machine}
-use Rattle.machine.specs.Inside.{Good}
+use Rattle.machine.specs.Inside.{WellFormedWorld}
 use Rattle.script.specs.declared.Columns.{Columns}
 use Rattle.script.specs.declared.Names.{Names}
 use Rattle.script.specs.declared.Names.the-variants.{Order, Malformed}
@@ -40,7 +40,7 @@ rest r committed pending bytes =
 pub record Held (m : Machine) (committed pending : List ℕ) : Type 0 where
   pub committed-long : length committed ≡ 64
   pub pending-long : length pending ≡ 1024
-  pub blank-or-good : (m ≡ blank) ⊎ Good (held m committed pending)
+  pub blank-or-good : (m ≡ blank) ⊎ WellFormedWorld (held m committed pending)
 
 -- what the runner keeps true between two chunks
 pub record Fit (r : Reading) (committed pending : List ℕ) : Type 0 where

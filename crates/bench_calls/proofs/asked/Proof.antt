@@ -1,4 +1,4 @@
--- `bench_calls::asked` meets its contract. Assumes nothing.
+-- `bench_calls::asked` meets its contract.
 use mathlib.Core.Path.{refl}
 use borrow.Author.Tests.{ne-eqb}
 use borrow.Author.Needs.{needs}

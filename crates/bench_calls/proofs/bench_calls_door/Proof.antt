@@ -1,11 +1,11 @@
 -- `bench_calls::bench_calls_door` meets its contract. The loop's invariant: both tables keep their length, and what is left of
--- the list gives what the list gives. The measure is what is left of the list. Assumes nothing.
+-- the list gives what the list gives. The measure is what is left of the list.
 use mathlib.Core.Path.{_≡_, refl, ap, _∙_}
 use Prim.Native.Nat.{_≤_, _-_}
 use native.Mathlib.Omega.{arith}
 use lib.ListN.{length, drop}
 use borrow.Author.Needs.{needs}
-use Rattle.bench_calls.specs.Lists.{door, State, run}
+use Rattle.bench_calls.specs.Lists.{door, Progress, run}
 use Rattle.bench_calls.proofs.Runs.{state, saves, restores, calls, list-ends, door-starts}
 use Rattle.bench_calls.proofs.bench_calls_door.Statement.{statement}
 use Rattle.bench_calls.proofs.bench_calls_door.Tie as tie
@@ -89,7 +89,7 @@ returns : tie.Need-returns Inv-loop μ-loop
 returns c =
     let inv = c .before .before .loop .inv in
     let same = list-ends _ _ _ _ _ (inv .3) (c .before .loop-test .left) ∙ door-starts _ _ _ _ _ (c .before .before .before .before .before .before .before .before .setup .ensures .0) in
-    (c .number-of .ensures ∙ ap (λ (s : State). s .last) same, (ap (λ (s : State). s .world .committed) same, ap (λ (s : State). s .world .pending) same))
+    (c .number-of .ensures ∙ ap (λ (s : Progress). s .last) same, (ap (λ (s : Progress). s .world .committed) same, ap (λ (s : Progress). s .world .pending) same))
 
 pub bench-calls-door-spec : {M : Type 1} → statement M
 bench-calls-door-spec =

@@ -1,4 +1,4 @@
--- `bench_calls::door_step` meets its contract: each call by its own promise. Assumes nothing.
+-- `bench_calls::door_step` meets its contract: each call by its own promise.
 use borrow.Author.Needs.{needs}
 use Rattle.bench_calls.proofs.Steps.{setup-done, release-done, begin-done, read-done, write-done, commit-done, give-up-done, finish-done, past-setup, no-call, tested-left}
 use Rattle.bench_calls.proofs.door_step.Statement.{statement}

@@ -1,6 +1,6 @@
 -- `bench_calls::inside_run` meets its contract. The loop's invariant: both tables keep their length, the world is good with the record at
 -- hand and with the one kept, and what is left of the list gives what the list gives; its measure is what is left of the list. The
--- loop over the cores stands at one core (Striking); its measure is how many are left. Assumes nothing.
+-- loop over the cores stands at one core (Striking); its measure is how many are left.
 use mathlib.Core.Path.{_≡_, refl, sym, ap, subst, _∙_}
 use mathlib.Core.Logic.{⊎-elim}
 use Prim.Native.Nat.{_+_, _*_, _-_, _≤_, _<_}
@@ -12,13 +12,13 @@ use Rattle.core.specs.declared.Core.{Core}
 use Rattle.core.specs.declared.calls.Settled.{Settled}
 use Rattle.machine.specs.declared.Outcome.{Outcome}
 use Rattle.machine.specs.Rule.{lent}
-use Rattle.machine.specs.Inside.{Good}
+use Rattle.machine.specs.Inside.{WellFormedWorld}
 use Rattle.machine.specs.OneCore.{given, handed}
-use Rattle.machine.proofs.InsideLaws.{fine, commit-left}
+use Rattle.machine.proofs.InsideLaws.{commit-left}
 use Rattle.machine.proofs.CoreCalls.{by-core-at, to-core, to-object, core-there, object-there, to-slot, few-words, to-fits}
 use Rattle.machine.proofs.CommitLaws.{Ready, ready, row-within, by-commit-at}
 use Rattle.machine.proofs.StrikeLoop.{withCores, Striking, striking-able, striking-hit, striking-missed, striking-done}
-use Rattle.bench_calls.specs.Lists.{inside, State, run}
+use Rattle.bench_calls.specs.Lists.{inside, Progress, run}
 use Rattle.bench_calls.proofs.Kept.{same-lengths, one-good}
 use Rattle.bench_calls.proofs.Runs.{state, saves, restores, calls, list-ends}
 use Rattle.bench_calls.proofs.Steps.{one-done, commit-asked, nothing-asked, carried-out}
@@ -36,15 +36,15 @@ Inv-loop list committed₀ pending₀ m₀ kept₀ last₀ i₀ committed pendin
     (i ≤ length list)
     × (length committed ≡ length committed₀)
     × (length pending ≡ length pending₀)
-    × Good (lent m committed pending)
-    × Good (lent kept committed pending)
+    × WellFormedWorld (lent m committed pending)
+    × WellFormedWorld (lent kept committed pending)
     × (run inside (state last m committed pending kept) (drop i list) ≡ run inside (state last₀ m₀ committed₀ pending₀ kept₀) list)
 
 abbrev μ-loop : tie.MeasureT-loop
 μ-loop list committed₀ pending₀ m₀ kept₀ last₀ i₀ committed pending m kept last i = length list - i
 
 -- the world that the number is asked of
-good : (c : tie.After-asked Inv-loop2 μ-loop2 Inv-loop μ-loop) → let at = c .before .before .before .before .before .before .loop in Good (lent (at .m) (at .committed) (at .pending))
+good : (c : tie.After-asked Inv-loop2 μ-loop2 Inv-loop μ-loop) → let at = c .before .before .before .before .before .before .loop in WellFormedWorld (lent (at .m) (at .committed) (at .pending))
 good c = c .before .before .before .before .before .before .loop .inv .3
 
 -- ---- a call that concerns one core
@@ -53,25 +53,25 @@ abbrev asks : tie.After-find Inv-loop2 μ-loop2 Inv-loop μ-loop → tie.After-a
 asks c = c .before .before .before .before .before
 
 there : (c : tie.After-find Inv-loop2 μ-loop2 Inv-loop μ-loop) → c .find .result .core < 16
-there c = core-there _ (good (asks c) .is-sound) _ _ _ (c .find .ensures)
+there c = core-there _ (good (asks c) .world-sound .is-sound) _ _ _ (c .find .ensures)
 
 card : (c : tie.After-find Inv-loop2 μ-loop2 Inv-loop μ-loop) → c .find .result .object < 64
-card c = object-there _ (good (asks c) .is-sound) _ _ _ (c .find .ensures)
+card c = object-there _ (good (asks c) .world-sound .is-sound) _ _ _ (c .find .ensures)
 
 -- the pending word of the core and the card found
 within : (c : tie.After-find Inv-loop2 μ-loop2 Inv-loop μ-loop) → let m = asks c .before .before .before .before .before .before .loop .m in
     c .find .result .core * m .objects + c .find .result .object < m .cores * m .objects
-within c = to-slot _ (good (asks c) .is-sound) _ _ _ (c .find .ensures)
+within c = to-slot _ (good (asks c) .world-sound .is-sound) _ _ _ (c .find .ensures)
 
 few : (c : tie.After-find Inv-loop2 μ-loop2 Inv-loop μ-loop) → let m = asks c .before .before .before .before .before .before .loop .m in m .cores * m .objects ≤ 1024
-few c = few-words _ (good (asks c) .is-sound) _ _ _ (c .find .ensures)
+few c = few-words _ (good (asks c) .world-sound .is-sound) _ _ _ (c .find .ensures)
 
 inside-committed : (c : tie.After-find Inv-loop2 μ-loop2 Inv-loop μ-loop) → c .find .result .object < length (asks c .before .before .before .before .before .before .loop .committed)
-inside-committed c = omega (arith, to-object _ (good (asks c) .is-sound) _ _ _ (c .find .ensures), good (asks c) .committed-long)
+inside-committed c = omega (arith, to-object _ (good (asks c) .world-sound .is-sound) _ _ _ (c .find .ensures), good (asks c) .world-sound .committed-long)
 
 inside-pending : (c : tie.After-find Inv-loop2 μ-loop2 Inv-loop μ-loop) → let at = asks c .before .before .before .before .before .before .loop in
     c .find .result .core * at .m .objects + c .find .result .object < length (at .pending)
-inside-pending c = omega (arith, within c, good (asks c) .pending-long)
+inside-pending c = omega (arith, within c, good (asks c) .world-sound .pending-long)
 
 -- ---- commit
 
@@ -79,27 +79,27 @@ abbrev asks-2 : tie.After-find2 Inv-loop2 μ-loop2 Inv-loop μ-loop → tie.Afte
 asks-2 c = c .before .before .before
 
 here : (c : tie.After-find2 Inv-loop2 μ-loop2 Inv-loop μ-loop) → c .find2 .result .core < asks-2 c .before .before .before .before .before .before .loop .m .cores
-here c = to-core _ (good (asks-2 c) .is-sound) _ _ _ (c .find2 .ensures)
+here c = to-core _ (good (asks-2 c) .world-sound .is-sound) _ _ _ (c .find2 .ensures)
 
 there-2 : (c : tie.After-find2 Inv-loop2 μ-loop2 Inv-loop μ-loop) → c .find2 .result .core < 16
-there-2 c = core-there _ (good (asks-2 c) .is-sound) _ _ _ (c .find2 .ensures)
+there-2 c = core-there _ (good (asks-2 c) .world-sound .is-sound) _ _ _ (c .find2 .ensures)
 
 -- the words of the pending table for that core
 row : (c : tie.After-find2 Inv-loop2 μ-loop2 Inv-loop μ-loop) → let m = asks-2 c .before .before .before .before .before .before .loop .m in
     c .find2 .result .core * m .objects + m .objects ≤ 1024
 row c =
     let m = asks-2 c .before .before .before .before .before .before .loop .m in
-    omega (arith, row-within (c .find2 .result .core) (m .cores) (m .objects) (here c), few-words m (good (asks-2 c) .is-sound) _ _ _ (c .find2 .ensures))
+    omega (arith, row-within (c .find2 .result .core) (m .cores) (m .objects) (here c), few-words m (good (asks-2 c) .world-sound .is-sound) _ _ _ (c .find2 .ensures))
 
 -- what the commit gives can be carried out
 able : (c : tie.After-settle Inv-loop2 μ-loop2 Inv-loop μ-loop) → let to = c .before .before .before in
-    Ready (asks-2 to .before .before .before .before .before .before .loop .m) (good (asks-2 to) .is-sound) (to .find2 .result .core) (c .settle .result)
+    Ready (asks-2 to .before .before .before .before .before .before .loop .m) (good (asks-2 to) .world-sound .is-sound) (to .find2 .result .core) (c .settle .result)
 able c =
     let to = c .before .before .before in
     let world = good (asks-2 to) in
     let m = asks-2 to .before .before .before .before .before .before .loop .m in
-    subst (λ (r : Settled). Ready m (world .is-sound) (to .find2 .result .core) r) (sym (c .settle .ensures))
-    (ready m (world .is-sound) (to .find2 .result .core) _ _ (here to) (world .formed .core-long) (world .formed .tickets-fit))
+    subst (λ (r : Settled). Ready m (world .world-sound .is-sound) (to .find2 .result .core) r) (sym (c .settle .ensures))
+    (ready m (world .world-sound .is-sound) (to .find2 .result .core) _ _ (here to) (world .formed .core-long) (world .formed .tickets-fit))
 
 abbrev done-of : tie.At-loop2 Inv-loop2 μ-loop2 Inv-loop μ-loop → tie.After-settle Inv-loop2 μ-loop2 Inv-loop μ-loop
 done-of c = c .before .before .before .before .before .before .before .before .before
@@ -194,7 +194,7 @@ element-copy-out-t50 c = card (c .before .before .before)
 act-on-requires : tie.Need-act-on-requires Inv-loop2 μ-loop2 Inv-loop μ-loop
 act-on-requires c κs =
     let to = c .before .before .before .before in
-    let world = good (asks to) in to-fits _ (world .is-sound) _ _ _ (to .find .ensures) _ refl (world .formed .tickets-fit)
+    let world = good (asks to) in to-fits _ (world .world-sound .is-sound) _ _ _ (to .find .ensures) _ refl (world .formed .tickets-fit)
 
 mul-after : tie.Need-mul-after Inv-loop2 μ-loop2 Inv-loop μ-loop
 mul-after c = record { fits = omega (arith, there (c .before .before .before .before .before .before)) }
@@ -219,7 +219,7 @@ loop-again-3 c =
     let test = asks to .before .before .before .before .before .loop-test .taken in
     let ask = to .before .before .before .ask .given in
     let w = lent (at .m) (at .committed) (at .pending) in
-    let same = by-core-at w (fine (at .inv .3)) (ask .0 .0) _ _ (to .find .result) _ (done .result) (to .before .object-of .ensures) (to .find .ensures) refl (done .ensures) in
+    let same = by-core-at w (at .inv .3 .world-sound) (ask .0 .0) _ _ (to .find .result) _ (done .result) (to .before .object-of .ensures) (to .find .ensures) refl (done .ensures) in
     let long = length-set (at .pending) (to .find .result .core * at .m .objects + to .find .result .object) (done .result .pending) in (
       omega (arith, test),
       at .inv .1,
@@ -269,12 +269,12 @@ write-back-requires c κs =
     let to = done .before .before .before in
     let m = asks-2 to .before .before .before .before .before .before .loop .m in
     let world = good (asks-2 to) in (
-      omega (arith, row-within (to .find2 .result .core) (m .cores) (m .objects) (here to), world .committed-long, world .pending-long),
+      omega (arith, row-within (to .find2 .result .core) (m .cores) (m .objects) (here to), world .world-sound .committed-long, world .world-sound .pending-long),
       (
         world .formed .versions-long,
         (
-          λ d l p. omega (arith, able done .within d l p, world .committed-long),
-          λ d l p. able done .raised d (omega (arith, world .committed-long)) p,
+          λ d l p. omega (arith, able done .within d l p, world .world-sound .committed-long),
+          λ d l p. able done .raised d (omega (arith, world .world-sound .committed-long)) p,
         ),
       ),
     )
@@ -332,7 +332,7 @@ loop-again-4 c =
     let at = asks .before .before .before .before .before .before .loop in
     let test = asks .before .before .before .before .before .loop-test .taken in
     let w = lent (at .m) (at .committed) (at .pending) in
-    let by = by-commit-at w (fine (at .inv .3)) (at .inv .3 .formed .core-long) _ (to .find2 .result) _ (done .settle .result) (to .find2 .ensures) (done .before .ahead-of .ensures) (done .settle .ensures) in
+    let by = by-commit-at w (at .inv .3 .world-sound) (at .inv .3 .formed .core-long) _ (to .find2 .result) _ (done .settle .result) (to .find2 .ensures) (done .before .ahead-of .ensures) (done .settle .ensures) in
     let all = striking-done (last .loop2 .inv .1) (omega (arith, c .loop2-test .left)) in
     let same = carried-out w (to .find2 .result .core) (done .settle .result) _ _ _ (moved .ensures .0) (moved .ensures .1) all ∙ by .0 in
     let r : Outcome = record { answer = done .settle .result .answer; machine = last .loop2 .m } in
@@ -380,7 +380,7 @@ returns : tie.Need-returns Inv-loop2 μ-loop2 Inv-loop μ-loop
 returns c =
     let inv = c .before .before .loop .inv in
     let same = list-ends _ _ _ _ _ (inv .5) (c .before .loop-test .left) in
-    (c .number-of .ensures ∙ ap (λ (s : State). s .last) same, (ap (λ (s : State). s .world .committed) same, ap (λ (s : State). s .world .pending) same))
+    (c .number-of .ensures ∙ ap (λ (s : Progress). s .last) same, (ap (λ (s : Progress). s .world .committed) same, ap (λ (s : Progress). s .world .pending) same))
 
 pub inside-run-spec : {M : Type 1} → statement M
 inside-run-spec =

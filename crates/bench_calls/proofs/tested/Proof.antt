@@ -1,4 +1,4 @@
--- `bench_calls::tested` meets its contract. Assumes nothing.
+-- `bench_calls::tested` meets its contract.
 use mathlib.Core.Path.{refl, sym, _∙_}
 use borrow.Author.Needs.{needs}
 use Rattle.bench_calls.proofs.tested.Statement.{statement}

@@ -1,4 +1,4 @@
--- `cards::main` is safe: the heading fits the buffer, and the runner starts fit. Assumes nothing.
+-- `cards::main` is safe: the heading fits the buffer, and the runner starts fit.
 use mathlib.Core.Path.{_≡_, refl, sym, ap, _∙_}
 use Prim.Native.Nat.{_≤_}
 use native.Mathlib.Omega.{arith}

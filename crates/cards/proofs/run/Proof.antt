@@ -1,5 +1,5 @@
 -- `cards::run` is safe and ends. The invariant: the runner's state is fit, and both buffers keep their length. The measure is the number
--- of turns that are left. Assumes nothing.
+-- of turns that are left.
 use mathlib.Core.Path.{_≡_, sym, _∙_}
 use Prim.Native.Nat.{_≤_}
 use native.Mathlib.Omega.{arith}

@@ -1,14 +1,14 @@
 // A transaction's life on its core: begun, told that it was set back, a card joins a set, struck, over; and whether two conflict.
-// Assumes nothing.
 use crate::Core;
 use crate::inside::jobs::running_of;
 ghost use mathlib.Core.Path.{_≡_};
 ghost use Prim.Native.Nat.{_≤_, _<_};
-ghost use Rattle.core.specs.Life.{withTransaction, unmarked, withRead, withWrite, conflict, holdsBack, isStruck, aborted, over};
+ghost use Rattle.core.specs.Life.{withTransaction, unmarked, withRead, withWrite, conflicting, holdsBack, isStruck, aborted, over};
+ghost use Rattle.core.specs.Parts.{mostJobs};
 
 // The running job's transaction begins, with this ticket.
 pub fn begin(k: Core, ticket: u32) -> Core
-    requires { ⌜ k .count ≤ 8 ⌝ }
+    requires { ⌜ k .count ≤ mostJobs ⌝ }
     ensures { λ r. ⌜ r ≡ withTransaction k ticket ⌝ }
 {
     let jobs = k.jobs;
@@ -51,7 +51,7 @@ pub fn add_write(mut k: Core, d: usize) -> Core
 
 // Whether two transactions conflict: the write set of either meets the data set of the other.
 fn conflict_of(a: Core, b: Core) -> bool
-    ensures { λ r. ⌜ r ≡ conflict a b ⌝ }
+    ensures { λ r. ⌜ r ≡ conflicting a b ⌝ }
 {
     if objset::meets(a.writes, objset::union(b.reads, b.writes)) {
         return true;

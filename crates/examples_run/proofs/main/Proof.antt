@@ -1,4 +1,4 @@
--- `examples_run::main`: the loop plays each row once. Assumes nothing.
+-- `examples_run::main`: the loop plays each row once.
 use Prim.Native.Nat.{_≤_, _-_}
 use borrow.Author.Needs.{needs}
 use Rattle.examples_run.proofs.main.Statement.{statement}

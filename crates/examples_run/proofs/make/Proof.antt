@@ -1,4 +1,4 @@
--- `examples_run::make`: what is lent is a part of each table. Assumes nothing.
+-- `examples_run::make`: what is lent is a part of each table.
 use mathlib.Core.Path.{sym}
 use lib.Seq.{length-take-le}
 use borrow.Author.Needs.{needs}

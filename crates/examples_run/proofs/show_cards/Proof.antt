@@ -1,4 +1,4 @@
--- `examples_run::show_cards`: what is written is a part of the table. Assumes nothing.
+-- `examples_run::show_cards`: what is written is a part of the table.
 use mathlib.Core.Path.{sym}
 use lib.Seq.{length-take-le}
 use borrow.Author.Needs.{needs}

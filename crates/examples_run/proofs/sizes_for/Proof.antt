@@ -1,4 +1,4 @@
--- `examples_run::sizes_for`: the product of two 32-bit numbers fits a word. Assumes nothing.
+-- `examples_run::sizes_for`: the product of two 32-bit numbers fits a word.
 use Prim.Native.Nat.{ℕ, _*_, _<_, _≤_}
 use native.Mathlib.Nat.{mul-le-mul}
 use native.Mathlib.Omega.{arith}

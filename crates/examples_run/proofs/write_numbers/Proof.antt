@@ -1,4 +1,4 @@
--- `examples_run::write_numbers`: the loop goes over the slice once. Assumes nothing.
+-- `examples_run::write_numbers`: the loop goes over the slice once.
 use Prim.Native.Nat.{_≤_, _-_}
 use lib.ListN.{length}
 use borrow.Author.Needs.{needs}

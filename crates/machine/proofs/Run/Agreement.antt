@@ -1,5 +1,5 @@
 -- The record and the tables say what the words say of the deeds so far: shown for a fresh setup and kept by every call that
--- follows the rule; and each deed finds what Orderly.antt says. Assumes nothing.
+-- follows the rule; and each deed finds what Orderly.antt says.
 use mathlib.Core.Path.{_≡_, refl, sym, ap, subst, _∙_}
 use mathlib.Core.Bool.{Bool, true, false, cond, _||_, true≢false}
 use mathlib.Core.List.{List, [], _∷_}
@@ -229,8 +229,8 @@ module _ {o : ℕ} {w : World} {h : List Deed} (a : Agree o w h) where
       same : view (other ∷ h) c ≡ view h c
       same = quiet-view a other tt c refl
 
-  pub step-told : (c : ℕ) → Lent-ok w c → coreAt (w .machine) c .zombie ≡ true → Agree o (Rule.told w c .world) (told c ∷ h)
-  unfolding Rule.told
+  pub step-told : (c : ℕ) → Lent-ok w c → coreAt (w .machine) c .zombie ≡ true → Agree o (Rule.setBackTold w c .world) (told c ∷ h)
+  unfolding Rule.setBackTold
   step-told c ok z =
       agree-core a (told c) tt (w .machine .commits) (w .machine .«give_ups») c _ (inside a (ok .core-ok)) (λ e q. q)
       (rw (view-told h c) (agrees-told (coreAt (w .machine) c) (view h c) z (a .each-core c)))

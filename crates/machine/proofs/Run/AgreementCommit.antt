@@ -1,5 +1,5 @@
 -- A commit that goes through keeps the agreement: the committing core is over, the struck ones are aborted, the cards and the
--- versions are the serial ones. Assumes nothing.
+-- versions are the serial ones.
 use mathlib.Core.Path.{_≡_, refl, sym, ap, ap₂, subst, _∙_}
 use mathlib.Core.Bool.{Bool, true, false, cond, not, _&&_, true≢false}
 use mathlib.Core.List.{List, [], _∷_}
@@ -56,9 +56,9 @@ module _ {o : ℕ} {w : World} {h : List Deed} (a : Agree o w h) (c : ℕ) (ok :
 
   -- what the commit leaves of core e
   left-at : (e : ℕ) (q : Bool) → eqb c e ≡ q
-      → CoreAgrees (cond q (Life.over (coreAt (w .machine) e)) (Life.struck ws (coreAt (w .machine) e)))
+      → CoreAgrees (cond q (Life.over (coreAt (w .machine) e)) (Life.struckBy ws (coreAt (w .machine) e)))
       (view (commits c n ∷ h) e)
-  unfolding Life.struck
+  unfolding Life.struckBy
   left-at e true p =
       agrees-idle (Life.over (coreAt (w .machine) e)) (view (commits c n ∷ h) e) refl refl refl refl
       (subst (λ (i : ℕ). Over (view (commits c n ∷ h) i)) (eqb-true c e p) (view-commits h c n))

@@ -1,5 +1,5 @@
 -- Attempts run on cards: what an attempt reads and leaves depends on the cards it touches alone, and it changes only the cards that
--- it writes. Assumes nothing.
+-- it writes.
 use mathlib.Core.Path.{_≡_, refl, sym, ap, ap₂, _∙_}
 use mathlib.Core.Bool.{Bool, true, false, cond, _&&_, _||_, true≢false, or-true}
 use mathlib.Core.List.{List, [], _∷_}

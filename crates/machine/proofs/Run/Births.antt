@@ -1,5 +1,4 @@
 -- What a deed changes of a transaction in progress: it goes on with its number, unless the deed is its begin or its end.
--- Assumes nothing.
 use mathlib.Core.Path.{_≡_, refl, sym, _∙_}
 use mathlib.Core.Bool.{Bool, true, false, cond, true≢false}
 use mathlib.Core.List.{List, [], _∷_, _++_}

@@ -1,4 +1,4 @@
--- The record of one core says what the words say of it. Assumes nothing.
+-- The record of one core says what the words say of it.
 use mathlib.Core.Path.{_≡_, refl, sym, ap, ap₂, _∙_, fun-ext}
 use mathlib.Core.Bool.{Bool, true, false, cond, _&&_, _||_, or-comm, or-assoc, true≢false}
 use mathlib.Core.List.{List, []}

@@ -1,4 +1,4 @@
--- What an attempt leaves on the cards: its last write where it wrote, and what stood there elsewhere. Assumes nothing.
+-- What an attempt leaves on the cards: its last write where it wrote, and what stood there elsewhere.
 use mathlib.Core.Path.{_≡_, refl, sym, ap, _∙_}
 use mathlib.Core.Bool.{Bool, true, false, cond, _||_, true≢false}
 use mathlib.Core.List.{List, [], _∷_}

@@ -1,5 +1,5 @@
 -- The eldest transaction in progress: nobody strikes it, it is never told to wait, and each of its acts ends it or takes it one
--- step on. Assumes nothing.
+-- step on.
 use mathlib.Core.Path.{_≡_, refl, _∙_}
 use mathlib.Core.Bool.{Bool, true, false, cond}
 use mathlib.Core.List.{List, _∷_}

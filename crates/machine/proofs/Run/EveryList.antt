@@ -1,4 +1,4 @@
--- Every list of calls has a run: the claim about whole runs speaks of each of them. Assumes nothing.
+-- Every list of calls has a run: the claim about whole runs speaks of each of them.
 use mathlib.Core.Path.{_≡_, refl, ap}
 use mathlib.Core.List.{List, [], _∷_}
 use Rattle.machine.specs.Rule.{World, Call}

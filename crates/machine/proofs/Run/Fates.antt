@@ -1,5 +1,5 @@
 -- While the deeds since its begin neither commit it nor give it up, a transaction is in progress on its core with its number; so
--- after the rounds that demand 3 allows, one or the other has happened. Assumes nothing.
+-- after the rounds that demand 3 allows, one or the other has happened.
 use mathlib.Core.Path.{_≡_, refl, sym, ap, _∙_}
 use mathlib.Core.Bool.{Bool, true, false, cond}
 use mathlib.Core.List.{List, [], _∷_, _++_, tail}

@@ -1,4 +1,4 @@
--- What holds of every orderly list holds at every moment of a run: each beginning of an orderly list is orderly. Assumes nothing.
+-- What holds of every orderly list holds at every moment of a run: each beginning of an orderly list is orderly.
 use mathlib.Core.Path.{_≡_, subst}
 use mathlib.Core.List.{List, [], _∷_, _++_}
 use Prim.Native.Nat.{ℕ}

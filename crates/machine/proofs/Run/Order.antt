@@ -1,4 +1,4 @@
--- Two transactions in progress were begun one after the other: their numbers differ. Assumes nothing.
+-- Two transactions in progress were begun one after the other: their numbers differ.
 use mathlib.Core.Path.{_≡_, sym, _∙_}
 use mathlib.Core.Bool.{true, false, true≢false}
 use mathlib.Core.List.{List, [], _∷_}

@@ -1,5 +1,5 @@
 -- What each deed of a run finds when it happens, said of the deeds alone: the bridge between the record, which shows it
--- (Agreement.antt), and the claims, which follow from it and never look at the record. Assumes nothing.
+-- (Agreement.antt), and the claims, which follow from it and never look at the record.
 use mathlib.Core.Path.{_≡_}
 use mathlib.Core.Bool.{true, false}
 use mathlib.Core.List.{List, [], _∷_}

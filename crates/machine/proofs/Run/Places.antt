@@ -1,4 +1,4 @@
--- The words of the pending table: each core's and card's own. Assumes nothing.
+-- The words of the pending table: each core's and card's own.
 use mathlib.Core.Path.{_≡_, sym, ap, _∙_}
 use Prim.Native.Nat.{ℕ, _+_, _*_, _/_, _%_, _<_}
 use native.Mathlib.Nat.{mul-le-mul-right, suc-mul}

@@ -1,5 +1,5 @@
 -- How many rounds a transaction T can be in progress. In each round the eldest in progress, which is T or one of those before it,
--- acts, and each act ends it or takes it one step on in an attempt that nobody strikes. Assumes nothing.
+-- acts, and each act ends it or takes it one step on in an attempt that nobody strikes.
 use mathlib.Core.Path.{_≡_, refl, ap, ap₂}
 use mathlib.Core.Bool.{Bool, true, false, _&&_, _||_}
 use mathlib.Core.List.{List, [], _∷_, _++_}

@@ -1,6 +1,6 @@
 -- Demand 2, from what each deed finds: at every moment the present attempt of each core would read again what it read, run alone on
 -- the cards as the commits so far left them. So it does at its commit, and the committed values handed to it stand together since the
--- newest commit. Assumes nothing.
+-- newest commit.
 use mathlib.Core.Path.{_≡_, refl, sym, ap, ap₂, subst, _∙_}
 use mathlib.Core.Bool.{Bool, true, false, cond, not, _&&_, _||_, true≢false}
 use mathlib.Core.List.{List, [], _∷_, _++_}

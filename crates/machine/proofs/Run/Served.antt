@@ -1,4 +1,4 @@
--- Demand 3 of every transaction begun in an orderly list. Assumes nothing.
+-- Demand 3 of every transaction begun in an orderly list.
 use mathlib.Core.Path.{_≡_, refl, _∙_}
 use mathlib.Core.List.{List, _∷_, _++_, append-assoc}
 use Prim.Native.Nat.{ℕ}

@@ -1,5 +1,5 @@
 -- Every call that follows the rule finds what Orderly.antt says and keeps the agreement; so does a whole run after an accepted
--- setup. Assumes nothing.
+-- setup.
 use mathlib.Core.Path.{_≡_, refl, sym, ap, ap₂, _∙_}
 use mathlib.Core.Bool.{Bool, true, false, cond, _||_, true≢false}
 use mathlib.Core.List.{List, [], _∷_}

@@ -1,5 +1,5 @@
 -- A transaction is struck at most as often as earlier ones were in progress at its begin: whoever strikes it is earlier and ends,
--- and nobody that begins later is earlier. Assumes nothing.
+-- and nobody that begins later is earlier.
 use mathlib.Core.Path.{_≡_, refl, ap₂}
 use mathlib.Core.Bool.{Bool, true, false, cond, _&&_}
 use mathlib.Core.List.{List, [], _∷_}

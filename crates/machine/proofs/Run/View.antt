@@ -1,4 +1,4 @@
--- What the words say of one core, and how one more deed changes it. Assumes nothing.
+-- What the words say of one core, and how one more deed changes it.
 use mathlib.Core.Path.{_≡_, refl}
 use mathlib.Core.Bool.{Bool, true, false}
 use mathlib.Core.List.{List, [], _∷_}

@@ -1,4 +1,4 @@
--- The claim about whole runs holds. Assumes nothing.
+-- The claim about whole runs holds.
 use mathlib.Core.Path.{_≡_, refl, sym, ap, subst, _∙_}
 use mathlib.Core.Bool.{Bool, true, false, cond}
 use mathlib.Core.List.{List, [], _∷_, _++_}
@@ -8,7 +8,7 @@ use lib.ListN.{getD}
 use Rattle.machine.specs.declared.Outcome.{Outcome}
 use Rattle.core.specs.declared.Answer.{Answer}
 use Rattle.core.specs.declared.Answer.the-variants.{Ready, Value}
-use Rattle.machine.specs.Answers.{named}
+use Rattle.machine.specs.Answers.{coreNamed}
 use Rattle.machine.specs.Record.{coreAt}
 use Rattle.machine.specs.Rule as Rule
 use Rattle.machine.specs.Rule.{World, lent, left, Call, Release, Begin, Read, Write, Commit, GiveUp, Finish, rule}
@@ -67,7 +67,7 @@ run-worked : {w₀ w : World} {es : List Event} → Run w₀ es w → w ≡ work
 unfolding worked
 run-worked fresh = refl
 run-worked (then {w = v} call a run f) =
-    f .world-is ∙ any-named (named a) v call ∙ ap (λ (u : World). rule 0 u call .world) (run-worked run)
+    f .world-is ∙ any-named (coreNamed a) v call ∙ ap (λ (u : World). rule 0 u call .world) (run-worked run)
 
 by-the-rule : {w₀ w : World} {es : List Event} → Run w₀ es w → ByTheRule w₀ es w
 by-the-rule {w₀} run =
@@ -78,7 +78,7 @@ by-the-rule {w₀} run =
           λ late early e p.
           let r = run-through late (e ∷ early) run p in
           let l = last-call (r .1) e early refl in
-          l .2 .answer-is ∙ ap (λ (u : World). rule (named (e .answer)) u (e .call) .answer) (run-worked (l .1));
+          l .2 .answer-is ∙ ap (λ (u : World). rule (coreNamed (e .answer)) u (e .call) .answer) (run-worked (l .1));
     }
 
 -- ---- the version that a read gives

@@ -1,5 +1,5 @@
 -- A commit that goes through keeps the standing rules and the shape of a record: it strikes only later transactions, and it leaves,
--- so the sum of setbacks and earlier tickets rises for none. Assumes nothing.
+-- so the sum of setbacks and earlier tickets rises for none.
 use mathlib.Core.Path.{_≡_, refl, sym, subst, _∙_}
 use mathlib.Core.Bool.{Bool, true, false, cond}
 use mathlib.Core.List.{List}
@@ -15,7 +15,7 @@ use Rattle.core.specs.declared.Core.{Core}
 use Rattle.core.specs.Parts.{noCore}
 use Rattle.machine.specs.Record.{coreAt}
 use Rattle.machine.specs.Rule.{blocked, cleared, changed, through}
-use Rattle.core.specs.Life.{isStruck, struck, over}
+use Rattle.core.specs.Life.{isStruck, struckBy, over}
 use Rattle.machine.proofs.Case.{struck-conflicts, not-ahead}
 use Rattle.machine.proofs.Sound.Turns.{Turns, turns-left}
 use Rattle.core.specs.Formed.{Formed-core}
@@ -54,11 +54,11 @@ module _ (m : Machine) (c : ℕ) (here : c < m .cores) (w : Whole m) where
 
   -- what holds of core c without its transaction and of the others, struck or not, holds of every core after the commit
   after-each : (P : ℕ → Core → Type 0) → P c (over (coreAt m c))
-      → ((e : ℕ) → e < 16 → (e ≡ c → ⊥) → P e (struck ws (coreAt m e))) → (e : ℕ) → e < 16 → P e (after e)
+      → ((e : ℕ) → e < 16 → (e ≡ c → ⊥) → P e (struckBy ws (coreAt m e))) → (e : ℕ) → e < 16 → P e (after e)
   after-each P new old e l =
       subst (P e) (sym (cleared-at ws c (m .core) e (omega (arith, f .core-long)))) (go (eqb e c) refl)
     where
-      go : (b : Bool) → eqb e c ≡ b → P e (cond b (over (coreAt m e)) (struck ws (coreAt m e)))
+      go : (b : Bool) → eqb e c ≡ b → P e (cond b (over (coreAt m e)) (struckBy ws (coreAt m e)))
       go true t = subst (λ (x : ℕ). P x (over (coreAt m x))) (sym (eqb-true e c t)) new
       go false t = old e l (eqb-false e c t)
 

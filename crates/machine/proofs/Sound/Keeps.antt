@@ -1,5 +1,5 @@
 -- Every call on a good world leaves a good world: a sound record of the right shape, and tables of the right lengths. The world
--- of an accepted setup is good. Assumes nothing.
+-- of an accepted setup is good.
 use mathlib.Core.Path.{_≡_, refl, sym, subst, _∙_}
 use mathlib.Core.Bool.{true, false, true≢false}
 use mathlib.Core.List.{List}
@@ -15,12 +15,12 @@ use Rattle.core.specs.declared.Answer.{Answer}
 use Rattle.core.specs.declared.Answer.the-variants.{Ready}
 use Rattle.core.specs.Parts.{noJob, noCore, idle, blankCore, running}
 use Rattle.machine.specs.Record.{coreAt, putCore, machineOf}
-use Rattle.machine.specs.Rule.{World, slot, released, begun, told, valued, written, through, ended, finished, setup, Call}
+use Rattle.machine.specs.Rule.{World, slot, released, begun, setBackTold, valued, written, through, ended, finished, setup, Call}
 use Rattle.core.specs.Life.{withJob, unmarked, withSets, without}
 use Rattle.machine.proofs.Case.{Case, is-refused, is-released, is-begun, is-told, is-valued, is-written, is-waiting, is-through, is-ended, is-finished, setup-case}
 use Rattle.machine.proofs.Tally.{tally-within}
 use Rattle.core.specs.Formed.{Formed-core}
-use Rattle.machine.specs.Inside.{Good}
+use Rattle.machine.specs.Inside.{WellFormedWorld}
 use Rattle.machine.proofs.Sound.Passed.{in-range}
 use Rattle.core.proofs.Tidy.{Tidy}
 use Rattle.machine.proofs.Sound.Standing.{standing, is-sound}
@@ -30,12 +30,13 @@ use Rattle.machine.proofs.Entries.{changed-long}
 use Rattle.machine.proofs.Sound.OneCore.{Whole, inside, put-whole, begun-whole, ended-whole}
 use Rattle.machine.proofs.Sound.Commit.{through-whole}
 
-pub whole : {w : World} → Good w → Whole (w .machine)
-whole g = record { formed = g .formed; rules = standing (g .is-sound) }
+pub whole : {w : World} → WellFormedWorld w → Whole (w .machine)
+whole g = record { formed = g .formed; rules = standing (g .world-sound .is-sound) }
 
 good : {w : World} → Whole (w .machine) → length (w .committed) ≡ w .machine .objects
-    → length (w .pending) ≡ w .machine .cores * w .machine .objects → Good w
-good g c p = record { formed = g .formed; is-sound = is-sound (g .rules); committed-long = c; pending-long = p }
+    → length (w .pending) ≡ w .machine .cores * w .machine .objects → WellFormedWorld w
+good g c p =
+    record { world-sound = record { is-sound = is-sound (g .rules); committed-long = c; pending-long = p }; formed = g .formed }
 
 -- ---- the new record of each call that changes core c
 
@@ -58,8 +59,8 @@ module _ (w : World) (c : ℕ) (g : Whole (w .machine)) (here : c < w .machine .
       put-whole m c here g (withJob k j) (released-formed (m .objects) k tidy formed j)
       (released-tidy (m .objects) k tidy formed j room) refl refl refl
 
-  told-whole : k .active ≡ true → Whole (told w c .world .machine)
-  unfolding told
+  told-whole : k .active ≡ true → Whole (setBackTold w c .world .machine)
+  unfolding setBackTold
   told-whole on =
       put-whole m c here g (unmarked k) (told-formed (m .objects) k tidy formed) (told-tidy (m .objects) k tidy formed on) refl refl refl
 
@@ -93,31 +94,31 @@ module _ (w : World) (c : ℕ) (g : Whole (w .machine)) (here : c < w .machine .
       listed : running k < k .count
       listed = rw (running-least k off) (least-listed (k .jobs) (k .count) (omega (arith, some)))
 
-pub keeps-good : {w w′ : World} {call : Call} {a : Answer} → Case w call a w′ → Good w → Good w′
+pub keeps-good : {w w′ : World} {call : Call} {a : Answer} → Case w call a w′ → WellFormedWorld w → WellFormedWorld w′
 keeps-good {w} is-refused g = g
 keeps-good {w} (is-released {c} {number} {deadline} ok room) g =
     unfold released in
-    good (released-whole w c (whole g) (ok .is-core) (record { number = number; deadline = deadline }) room) (g .committed-long)
-    (g .pending-long)
+    good (released-whole w c (whole g) (ok .is-core) (record { number = number; deadline = deadline }) room) (g .world-sound .committed-long)
+    (g .world-sound .pending-long)
 keeps-good {w} (is-begun {c} ok some off spare) g =
-    unfold begun in good (begun-whole (w .machine) c (ok .is-core) (whole g) some off spare) (g .committed-long) (g .pending-long)
+    unfold begun in good (begun-whole (w .machine) c (ok .is-core) (whole g) some off spare) (g .world-sound .committed-long) (g .world-sound .pending-long)
 keeps-good {w} (is-told {call} {c} asks ok mark) g =
-    unfold told in good (told-whole w c (whole g) (ok .core-ok .is-core) (ok .active)) (g .committed-long) (g .pending-long)
+    unfold setBackTold in good (told-whole w c (whole g) (ok .core-ok .is-core) (ok .active)) (g .world-sound .committed-long) (g .world-sound .pending-long)
 keeps-good {w} (is-valued {c} {d} ok card free) g =
-    unfold valued in good (valued-whole w c (whole g) (ok .core-ok .is-core) d card (ok .active) free) (g .committed-long) (g .pending-long)
+    unfold valued in good (valued-whole w c (whole g) (ok .core-ok .is-core) d card (ok .active) free) (g .world-sound .committed-long) (g .world-sound .pending-long)
 keeps-good {w} (is-written {c} {d} {v} ok card free) g =
     unfold written in
-    good (written-whole w c (whole g) (ok .core-ok .is-core) d v card (ok .active) free) (g .committed-long)
-    (length-set (w .pending) (slot (w .machine) c d) v ∙ g .pending-long)
+    good (written-whole w c (whole g) (ok .core-ok .is-core) d v card (ok .active) free) (g .world-sound .committed-long)
+    (length-set (w .pending) (slot (w .machine) c d) v ∙ g .world-sound .pending-long)
 keeps-good {w} (is-waiting ok free rival) g = g
 keeps-good {w} (is-through {c} ok free clear) g =
     unfold through in
     good (through-whole (w .machine) c (ok .core-ok .is-core) (whole g) clear (ok .active) (w .committed) (w .pending))
-    (changed-long (coreAt (w .machine) c .writes) _ 0 (w .committed) ∙ g .committed-long) (g .pending-long)
+    (changed-long (coreAt (w .machine) c .writes) _ 0 (w .committed) ∙ g .world-sound .committed-long) (g .world-sound .pending-long)
 keeps-good {w} (is-ended {c} ok on) g =
-    unfold ended in good (ended-whole (w .machine) c (ok .is-core) (whole g) on) (g .committed-long) (g .pending-long)
+    unfold ended in good (ended-whole (w .machine) c (ok .is-core) (whole g) on) (g .world-sound .committed-long) (g .world-sound .pending-long)
 keeps-good {w} (is-finished {c} ok some off) g =
-    unfold finished in good (finished-whole w c (whole g) (ok .is-core) some off) (g .committed-long) (g .pending-long)
+    unfold finished in good (finished-whole w c (whole g) (ok .is-core) some off) (g .world-sound .committed-long) (g .world-sound .pending-long)
 
 -- ---- setup
 
@@ -161,9 +162,9 @@ module _ (cores objects : ℕ) where
       }
 
 pub setup-good : (cores objects : ℕ) (committed pending : List ℕ) → setup cores objects committed pending .answer ≡ Ready
-    → Good (setup cores objects committed pending .world)
+    → WellFormedWorld (setup cores objects committed pending .world)
 setup-good cores objects committed pending ready =
     let new = setup-case cores objects committed pending ready in
     let r = in-range cores objects (new .0) in
-    subst Good (sym (new .1))
+    subst WellFormedWorld (sym (new .1))
     (good (new-whole cores objects (r .0) (r .1) (r .2) (r .3)) (length-replicate {A = ℕ} objects 0) (length-replicate {A = ℕ} (cores * objects) 0))

@@ -1,4 +1,4 @@
--- The calls that change one core keep the standing rules and the shape of a record. Assumes nothing.
+-- The calls that change one core keep the standing rules and the shape of a record.
 use mathlib.Core.Path.{_≡_, refl, _∙_}
 use mathlib.Core.Bool.{true, false}
 use Prim.Native.Nat.{ℕ, _+_, _≤_, _<_}

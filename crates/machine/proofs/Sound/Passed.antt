@@ -1,4 +1,4 @@
--- Soundness is fifteen tests, and all of them pass. Assumes nothing.
+-- Soundness is fifteen tests, and all of them pass.
 use mathlib.Core.Path.{_≡_}
 use mathlib.Core.Bool.{true, _&&_}
 use Prim.Native.Nat.{ℕ, _≤_, _<_}

@@ -1,5 +1,5 @@
 -- What every single call keeps to: after an accepted setup no record is unsound and no table's length wrong; no number outgrows
--- its width; only write changes a pending word, only commit a committed one. Assumes nothing.
+-- its width; only write changes a pending word, only commit a committed one.
 use mathlib.Core.Path.{_≡_, refl, sym, ap₂, subst, _∙_}
 use mathlib.Core.Bool.{Bool, true, false, cond, not, _&&_, _||_, true≢false}
 use mathlib.Core.List.{List}
@@ -11,19 +11,19 @@ use Rattle.machine.specs.declared.Machine.{Machine}
 use Rattle.core.specs.declared.Answer.{Answer}
 use Rattle.machine.specs.Record.{coreAt}
 use Rattle.machine.specs.Sound.{sound}
-use Rattle.machine.specs.Answers.{number}
-use Rattle.machine.specs.Rule.{World, Result, unlessLent, told, valued, read, written, write, blocked, through, waiting, commit, rule, Call, Release, Begin, Read, Write, Commit, GiveUp, Finish}
+use Rattle.machine.specs.Answers.{refusalNumber}
+use Rattle.machine.specs.Rule.{World, Result, unlessLent, setBackTold, valued, read, written, write, blocked, through, waiting, commit, rule, Call, Release, Begin, Read, Write, Commit, GiveUp, Finish}
 use Rattle.machine.specs.Refusals.{at, refusals, applies, Smallest}
 use Rattle.machine.proofs.Refusals.{smallest-given}
 use Rattle.machine.proofs.Case.{Case}
 use Rattle.machine.proofs.Sound.Standing.{Standing, standing}
-use Rattle.machine.specs.Inside.{Good}
+use Rattle.machine.specs.Inside.{WellFormedWorld}
 use Rattle.machine.proofs.Sound.Keeps.{keeps-good}
 
 -- ---- after an accepted setup refusals 2 and 3 never come
 
 -- a number that is given applies
-given-applies : (e : ℕ) (w : World) (call : Call) (n : ℕ) → number (rule e w call .answer) ≡ suc n → applies (suc n) (refusals w call) ≡ true
+given-applies : (e : ℕ) (w : World) (call : Call) (n : ℕ) → refusalNumber (rule e w call .answer) ≡ suc n → applies (suc n) (refusals w call) ≡ true
 given-applies e w call n p = subst (λ (k : ℕ). Smallest k (refusals w call)) p (smallest-given e w call) .it-applies (omega arith)
 
 -- a condition that is given by the failing of t, for calls that can be refused so
@@ -32,16 +32,16 @@ failed true true p = absurd (true≢false (sym p))
 failed true false p = refl
 failed false t p = absurd (true≢false (sym p))
 
-pub never-unsound : (e : ℕ) {w : World} (call : Call) → Good w → number (rule e w call .answer) ≡ 2 → ⊥
+pub never-unsound : (e : ℕ) {w : World} (call : Call) → WellFormedWorld w → refusalNumber (rule e w call .answer) ≡ 2 → ⊥
 unfolding refusals applies
-never-unsound e {w} call g p = true≢false (sym (g .is-sound) ∙ failed true (sound (w .machine)) (given-applies e w call 1 p))
+never-unsound e {w} call g p = true≢false (sym (g .world-sound .is-sound) ∙ failed true (sound (w .machine)) (given-applies e w call 1 p))
 
-pub never-misfit : (e : ℕ) {w : World} (call : Call) → Good w → number (rule e w call .answer) ≡ 3 → ⊥
+pub never-misfit : (e : ℕ) {w : World} (call : Call) → WellFormedWorld w → refusalNumber (rule e w call .answer) ≡ 3 → ⊥
 unfolding refusals applies
 never-misfit e {w} call g p =
     let fit =
-    ap₂ _&&_ (eq-eqb (length (w .committed)) (w .machine .objects) (g .committed-long))
-    (eq-eqb (length (w .pending)) (w .machine .cores * w .machine .objects) (g .pending-long)) in
+    ap₂ _&&_ (eq-eqb (length (w .committed)) (w .machine .objects) (g .world-sound .committed-long))
+    (eq-eqb (length (w .pending)) (w .machine .cores * w .machine .objects) (g .world-sound .pending-long)) in
     true≢false (sym fit ∙ failed (at call false false true true true false false) _ (given-applies e w call 2 p))
 
 -- ---- no number outgrows its width
@@ -59,7 +59,7 @@ pub record Fits (m : Machine) : Type 0 where
   pub aborts-fit : (c : ℕ) → c < 16 → coreAt m c .aborts ≤ 15
   pub sets-fit : (c : ℕ) → c < 16 → (coreAt m c .reads < 2 ^ 64) × (coreAt m c .writes < 2 ^ 64)
 
-pub good-fits : {w : World} → Good w → Fits (w .machine)
+pub good-fits : {w : World} → WellFormedWorld w → Fits (w .machine)
 good-fits {w} g =
     record {
       cores-fit = s .few-cores;
@@ -79,7 +79,7 @@ good-fits {w} g =
     m = w .machine
 
     s : Standing m
-    s = standing (g .is-sound)
+    s = standing (g .world-sound .is-sound)
 
     commits : m .commits ≤ 4294967295
     commits = omega (arith, s .turns .counted, g .formed .tickets-fit)
@@ -96,7 +96,7 @@ good-fits {w} g =
     aborts c l true a = omega (arith, s .turns .bounded c l a, s .few-cores)
     aborts c l false a = omega (arith, s .tidy c l .idle-clear a .no-aborts)
 
-pub stays-fitting : {w w′ : World} {call : Call} {a : Answer} → Case w call a w′ → Good w → Fits (w′ .machine)
+pub stays-fitting : {w w′ : World} {call : Call} {a : Answer} → Case w call a w′ → WellFormedWorld w → Fits (w′ .machine)
 stays-fitting step g = good-fits (keeps-good step g)
 
 -- ---- which calls change a table
@@ -125,27 +125,27 @@ committed : World → List ℕ
 committed w = w .committed
 
 pub only-write-pending : (e : ℕ) (w : World) (call : Call) → isWrite call ≡ false → rule e w call .world .pending ≡ w .pending
-unfolding rule pending read commit told valued through
+unfolding rule pending read commit setBackTold valued through
 only-write-pending e w (Release c number deadline) p = refl
 only-write-pending e w (Begin c) p = refl
 only-write-pending e w (Read c d) p =
-    lent-keeps pending w _ _ (either-keeps pending w (coreAt (w .machine) c .zombie) (told w c) (valued w c d) refl refl)
+    lent-keeps pending w _ _ (either-keeps pending w (coreAt (w .machine) c .zombie) (setBackTold w c) (valued w c d) refl refl)
 only-write-pending e w (Write c d v) p = absurd (true≢false p)
 only-write-pending e w (Commit c) p =
     lent-keeps pending w _ _
-    (either-keeps pending w (coreAt (w .machine) c .zombie) (told w c) _ refl
+    (either-keeps pending w (coreAt (w .machine) c .zombie) (setBackTold w c) _ refl
     (either-keeps pending w (blocked (w .machine) c) (waiting w e) (through w c) refl refl))
 only-write-pending e w (GiveUp c) p = refl
 only-write-pending e w (Finish c) p = refl
 
 pub only-commit-committed : (e : ℕ) (w : World) (call : Call) → isCommit call ≡ false → rule e w call .world .committed ≡ w .committed
-unfolding rule committed read write told valued written
+unfolding rule committed read write setBackTold valued written
 only-commit-committed e w (Release c number deadline) p = refl
 only-commit-committed e w (Begin c) p = refl
 only-commit-committed e w (Read c d) p =
-    lent-keeps committed w _ _ (either-keeps committed w (coreAt (w .machine) c .zombie) (told w c) (valued w c d) refl refl)
+    lent-keeps committed w _ _ (either-keeps committed w (coreAt (w .machine) c .zombie) (setBackTold w c) (valued w c d) refl refl)
 only-commit-committed e w (Write c d v) p =
-    lent-keeps committed w _ _ (either-keeps committed w (coreAt (w .machine) c .zombie) (told w c) (written w c d v) refl refl)
+    lent-keeps committed w _ _ (either-keeps committed w (coreAt (w .machine) c .zombie) (setBackTold w c) (written w c d v) refl refl)
 only-commit-committed e w (Commit c) p = absurd (true≢false p)
 only-commit-committed e w (GiveUp c) p = refl
 only-commit-committed e w (Finish c) p = refl

@@ -1,5 +1,5 @@
 -- The standing rules as plain statements: `Standing m` holds if and only if the test `sound m` passes.
--- `Formed m` is what the types of the record's fields give besides. Assumes nothing.
+-- `Formed m` is what the types of the record's fields give besides.
 use mathlib.Core.Path.{_≡_, refl, sym, ap, ap₂}
 use mathlib.Core.Bool.{Bool, true, false, not, _&&_}
 use Prim.Native.Nat.{ℕ, _+_, _≤_, _<_}
@@ -13,7 +13,7 @@ use Rattle.core.proofs.TestLaws.{if-true, true-if, both}
 use Rattle.core.proofs.Tidy.{Tidy, tidy-core, sets-pass, owner-passes, idle-passes, zombie-passes, eight-pass, unused-pass, first-passes}
 use Rattle.machine.specs.declared.Machine.{Machine}
 use Rattle.machine.specs.Record.{coreAt}
-use Rattle.machine.specs.Sound.{inRange, setsWithin, ownerListed, idleClear, zombieEmpty, atMostEight, unusedJobs, lackedCores, lackedObjects, ownerFirst, ticketsDiffer, ticketsGiven, ticketsCounted, versionsBounded, ahead, abortsBounded, sound}
+use Rattle.machine.specs.Sound.{inRange, setsWithin, ownerListed, idleClear, zombieEmpty, atMostEight, unusedJobs, lackedCores, lackedObjects, ownerFirst, ticketsDiffer, ticketsGiven, ticketsCounted, versionsBounded, smallerTickets, abortsBounded, sound}
 use Rattle.machine.proofs.Sound.Turns.{Turns}
 use Rattle.machine.proofs.Sound.Passed.{in-range, Passed, passed, passed-all}
 
@@ -51,7 +51,7 @@ lacked-core m s c l h =
     (if-true (leb (m .cores) c) _ (each-one 16 _ (s .passed-lacked-cores) c l) (le-leb (m .cores) c h))
 
 standing-turns : (m : Machine) → Passed m → TurnsOf m
-unfolding ticketsDiffer ticketsGiven ticketsCounted abortsBounded ahead
+unfolding ticketsDiffer ticketsGiven ticketsCounted abortsBounded smallerTickets
 standing-turns m s =
     record {
       lacked = λ c l h. not-true (coreAt m c .active) (lacked-core m s c l h .1);
@@ -101,7 +101,7 @@ standing {m} sound-m =
 -- ---- the rules together give soundness
 
 pub is-sound : {m : Machine} → Standing m → sound m ≡ true
-unfolding inRange setsWithin ownerListed idleClear zombieEmpty atMostEight unusedJobs lackedCores lackedObjects ownerFirst ticketsDiffer ticketsGiven ticketsCounted versionsBounded ahead abortsBounded
+unfolding inRange setsWithin ownerListed idleClear zombieEmpty atMostEight unusedJobs lackedCores lackedObjects ownerFirst ticketsDiffer ticketsGiven ticketsCounted versionsBounded smallerTickets abortsBounded
 is-sound {m} s =
     passed-all m
     (record {

@@ -1,6 +1,6 @@
 -- The standing rules that tie the transactions in progress to one another, over plain functions of the core's number: which
 -- cores have a transaction in progress (a), its ticket (t) and its setbacks (b). They outlast a change elsewhere, a begin and
--- an end. Assumes nothing.
+-- an end.
 use mathlib.Core.Path.{_≡_, refl, sym, ap, ap₂, _∙_}
 use mathlib.Core.Bool.{Bool, true, false, cond, _&&_, true≢false}
 use Prim.Native.Nat.{ℕ, _+_, _≤_, _<_}

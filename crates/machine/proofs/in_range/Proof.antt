@@ -1,4 +1,4 @@
--- `machine::in_range` meets its contract. Assumes nothing.
+-- `machine::in_range` meets its contract.
 use mathlib.Core.Path.{refl}
 use native.Mathlib.Omega.{arith}
 use borrow.Author.Tests.{lt-ltb, le-ltb, le-leb, lt-leb}

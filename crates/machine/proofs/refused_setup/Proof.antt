@@ -1,4 +1,4 @@
--- `machine::refused_setup` meets its contract. Assumes nothing.
+-- `machine::refused_setup` meets its contract.
 use borrow.Author.Needs.{needs}
 use Rattle.machine.proofs.refused_setup.Statement.{statement}
 use Rattle.machine.proofs.refused_setup.Tie as tie

@@ -1,4 +1,4 @@
--- `machine::tables_fit` meets its contract. Assumes nothing.
+-- `machine::tables_fit` meets its contract.
 use mathlib.Core.Path.{sym, ap}
 use mathlib.Core.Bool.{Bool, _&&_}
 use Prim.Native.Nat.{_*_}

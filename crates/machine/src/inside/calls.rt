@@ -1,4 +1,4 @@
-// The calls that concern one core: the core is taken out of the record, the call is made on it, and it is put back. Assumes nothing.
+// The calls that concern one core: the core is taken out of the record, the call is made on it, and it is put back.
 use crate::Machine;
 use crate::Outcome;
 use core::calls::Act;
@@ -8,7 +8,7 @@ use core::calls::object_of;
 ghost use mathlib.Core.Path.{_≡_};
 ghost use mathlib.Core.Bool.{true};
 ghost use Rattle.machine.specs.Sound.{sound};
-ghost use Rattle.machine.specs.Inside.{Fine};
+ghost use Rattle.machine.specs.Inside.{SoundWorld};
 ghost use Rattle.machine.specs.Rule.{lent, left, rule};
 ghost use Rattle.machine.specs.OneCore.{found, callOf, zeroed, handed};
 
@@ -72,7 +72,7 @@ pub fn alone(mut m: Machine, core: u32, a: Act) -> Outcome
 
 // A call that is lent the tables: read, write.
 pub fn access(mut m: Machine, core: u32, a: Act, committed: &[u32], pending: &mut [u32]) -> Outcome
-    requires { ⌜ Fine (lent m (now committed) (now pending)) ⌝ }
+    requires { ⌜ SoundWorld (lent m (now committed) (now pending)) ⌝ }
     ensures { λ r. ⌜ left r (now (committed .entry)) (now (pending .exit)) ≡ rule 0 (lent m (now (committed .entry)) (now (pending .entry))) (callOf a core) ⌝ }
 {
     let to = find(core, object_of(a), m.cores, m.objects);

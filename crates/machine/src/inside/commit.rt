@@ -1,33 +1,36 @@
 // A transaction commits (document 01: commit): who is ahead of it, and what its write set changes in the tables, the versions and the
-// other cores. Assumes nothing.
+// other cores.
 use crate::Machine;
 use crate::Outcome;
 use crate::inside::calls::find;
+use core::CORES;
 use core::Core;
+use core::calls::NOBODY;
 use core::calls::settle;
 use core::inside::transaction::abort;
 use core::inside::transaction::holds_back;
 use core::inside::transaction::is_struck;
+use objset::OBJECTS;
 ghost use mathlib.Core.Path.{_≡_};
 ghost use mathlib.Core.Bool.{true, cond};
 ghost use lib.Dec.{eqb};
 ghost use Prim.Native.Nat.{ℕ, _+_, _≤_, _<_};
 ghost use lib.ListN.{length, getD};
-ghost use Rattle.objset.specs.Objset.{has};
-ghost use Rattle.core.specs.Parts.{noCore};
+ghost use Rattle.objset.specs.Objset.{mostObjects, has};
+ghost use Rattle.core.specs.Parts.{mostCores, noCore};
 ghost use Rattle.core.specs.declared.Answer.the-variants.{Waits};
-ghost use Rattle.machine.specs.Answers.{named};
-ghost use Rattle.machine.specs.Inside.{Fine};
+ghost use Rattle.machine.specs.Answers.{coreNamed};
+ghost use Rattle.machine.specs.Inside.{SoundWorld};
 ghost use Rattle.machine.specs.Rule.{lent, left, contender, changed, commit as commitRule};
-ghost use Rattle.machine.specs.OneCore.{firstHolding, strikes};
+ghost use Rattle.machine.specs.OneCore.{firstHolding, struckAll};
 
-// The least core that holds the transaction of core k back; 16 where none does. The loop goes over all 16: with a constant bound the
+// The least core that holds the transaction of core k back; NOBODY where none does. The loop goes over all of them: with a constant bound the
 // compiler makes no copy of the record here.
 pub fn ahead_of(m: Machine, k: Core) -> u8
     ensures { λ r. ⌜ r ≡ firstHolding (m .core) k ⌝ }
 {
-    let mut ahead: u8 = 16;
-    let mut e: u8 = 16;
+    let mut ahead: u8 = NOBODY;
+    let mut e: u8 = NOBODY;
     while 0 < e {
         e -= 1;
         let other = m.core[e as usize];
@@ -45,11 +48,11 @@ pub fn write_back(
     base: usize,
     committed: &mut [u32],
     pending: &[u32],
-    versions: &mut [u32; 64],
+    versions: &mut [u32; OBJECTS],
 )
     requires { ⌜ base + length (now committed) ≤ length (now pending) ⌝ }
-    requires { ⌜ length (now versions) ≡ 64 ⌝ }
-    requires { ⌜ ((d : ℕ) → d < 64 → has ws d ≡ true → d < length (now committed)) ⌝ }
+    requires { ⌜ length (now versions) ≡ mostObjects ⌝ }
+    requires { ⌜ ((d : ℕ) → d < mostObjects → has ws d ≡ true → d < length (now committed)) ⌝ }
     requires { ⌜ ((d : ℕ) → d < length (now committed) → has ws d ≡ true → getD (now versions) d 0 < 4294967295) ⌝ }
     ensures values { λ r. ⌜ now (committed .exit) ≡ changed ws (λ d v. getD (now (pending .entry)) (base + d) 0) 0 (now (committed .entry)) ⌝ }
     ensures raised { λ r. ⌜ now (versions .exit) ≡ changed ws (λ d v. v + 1) 0 (now (versions .entry)) ⌝ }
@@ -68,18 +71,18 @@ pub fn write_back(
 
 // How many cores a commit of the write set ws looks at: none where it is empty.
 pub fn reach_of(ws: u64) -> usize
-    ensures { λ r. ⌜ r ≡ cond (eqb ws 0) 0 16 ⌝ }
+    ensures { λ r. ⌜ r ≡ cond (eqb ws 0) 0 mostCores ⌝ }
 {
-    if ws == 0 { 0 } else { 16 }
+    if ws == 0 { 0 } else { CORES }
 }
 
 // The cores after a commit of the write set ws, whose own core has no transaction any more: each transaction that ws strikes is aborted.
-fn strike(mut cores: [Core; 16], ws: u64) -> [Core; 16]
-    requires { ⌜ ((e : ℕ) → e < 16 → getD cores e noCore .aborts < 255) ⌝ }
-    ensures { λ r. ⌜ r ≡ strikes ws cores ⌝ }
+fn strike(mut cores: [Core; CORES], ws: u64) -> [Core; CORES]
+    requires { ⌜ ((e : ℕ) → e < mostCores → getD cores e noCore .aborts < 255) ⌝ }
+    ensures { λ r. ⌜ r ≡ struckAll ws cores ⌝ }
 {
     let mut e: usize = 0;
-    while e < 16 {
+    while e < CORES {
         let k = cores[e];
         if is_struck(ws, k) {
             cores[e] = abort(k);
@@ -94,8 +97,8 @@ fn strike(mut cores: [Core; 16], ws: u64) -> [Core; 16]
 // waits. Any other goes through. A refusal or a wait leaves the record and both tables as they are, and the
 // pending table keeps every word.
 pub fn commit(mut m: Machine, core: u32, committed: &mut [u32], pending: &mut [u32]) -> Outcome
-    requires { ⌜ Fine (lent m (now committed) (now pending)) ⌝ }
-    ensures rule { λ r. ⌜ left r (now (committed .exit)) (now (pending .exit)) ≡ commitRule (named (r .answer)) (lent m (now (committed .entry)) (now (pending .entry))) core ⌝ }
+    requires { ⌜ SoundWorld (lent m (now committed) (now pending)) ⌝ }
+    ensures rule { λ r. ⌜ left r (now (committed .exit)) (now (pending .exit)) ≡ commitRule (coreNamed (r .answer)) (lent m (now (committed .entry)) (now (pending .entry))) core ⌝ }
     ensures waits { λ r. ⌜ ((e : ℕ) → r .answer ≡ Waits e → contender m core e ≡ true) ⌝ }
 {
     let to = find(core, 0, m.cores, m.objects);

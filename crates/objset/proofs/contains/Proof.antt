@@ -1,4 +1,4 @@
--- `objset::contains` meets its contract: the shift moves the digit of d to the last place. Assumes nothing.
+-- `objset::contains` meets its contract: the shift moves the digit of d to the last place.
 use mathlib.Core.Path.{sym}
 use borrow.Author.Needs.{needs}
 use Rattle.objset.specs.Objset.{has}

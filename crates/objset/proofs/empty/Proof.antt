@@ -1,4 +1,4 @@
--- `objset::empty` meets its contract: the empty word is 0. Assumes nothing.
+-- `objset::empty` meets its contract: the empty word is 0.
 use mathlib.Core.Path.{sym}
 use Rattle.objset.proofs.Laws.{none-zero}
 use Rattle.objset.proofs.empty.Statement.{statement}

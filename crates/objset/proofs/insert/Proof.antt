@@ -1,4 +1,4 @@
--- `objset::insert` meets its contract: `|` with the mask adds the object. Assumes nothing.
+-- `objset::insert` meets its contract: `|` with the mask adds the object.
 use mathlib.Core.Path.{_∙_, ap, sym}
 use Prim.Native.Nat.{ℕ}
 use lib.Bits.{bitOr}

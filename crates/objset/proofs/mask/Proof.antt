@@ -1,4 +1,4 @@
--- `objset::mask` meets its contract: the rule of the table is one test, computed over all of its entries. Assumes nothing.
+-- `objset::mask` meets its contract: the rule of the table is one test, computed over all of its entries.
 use mathlib.Core.Path.{_≡_, refl}
 use mathlib.Core.Bool.{Bool, true}
 use mathlib.Core.List.{List, [], _∷_}

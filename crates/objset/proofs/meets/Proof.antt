@@ -1,4 +1,4 @@
--- `objset::meets` meets its contract: `&` leaves a digit if and only if the sets meet. Assumes nothing.
+-- `objset::meets` meets its contract: `&` leaves a digit if and only if the sets meet.
 use borrow.Author.Needs.{needs}
 use Rattle.objset.proofs.Bitwise.{and-meeting}
 use Rattle.objset.proofs.meets.Statement.{statement}

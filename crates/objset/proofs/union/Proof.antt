@@ -1,4 +1,4 @@
--- `objset::union` meets its contract: `|` is the union. Assumes nothing.
+-- `objset::union` meets its contract: `|` is the union.
 use borrow.Author.Needs.{needs}
 use Rattle.objset.proofs.Bitwise.{or-joined}
 use Rattle.objset.proofs.union.Statement.{statement}

@@ -1,4 +1,4 @@
--- `objset::within` meets its contract: a word below 2 to the power n has no digit from n on. Assumes nothing.
+-- `objset::within` meets its contract: a word below 2 to the power n has no digit from n on.
 use mathlib.Core.Path.{_∙_, ap, sym}
 use Prim.Native.Nat.{ℕ}
 use lib.Dec.{ltb}

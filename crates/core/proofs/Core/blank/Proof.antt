@@ -1,4 +1,4 @@
--- `core::Core::blank` meets its contract. Assumes nothing.
+-- `core::Core::blank` meets its contract.
 use mathlib.Core.Path.{refl}
 use borrow.Author.Needs.{needs}
 use Rattle.objset.proofs.Laws.{none-zero}

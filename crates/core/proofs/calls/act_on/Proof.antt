@@ -1,4 +1,4 @@
--- `core::calls::act_on` meets its contract. Assumes nothing.
+-- `core::calls::act_on` meets its contract.
 use mathlib.Core.Path.{_∙_}
 use Rattle.core.specs.Calls.{actOn, taken}
 use Rattle.core.proofs.CallLaws.{accepted, known-before}

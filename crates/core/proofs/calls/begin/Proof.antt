@@ -1,4 +1,4 @@
--- `core::calls::begin` meets its contract. Assumes nothing.
+-- `core::calls::begin` meets its contract.
 use mathlib.Core.Path.{_∙_}
 use borrow.Author.Tests.{le-leb, lt-leb, eq-eqb, ne-eqb}
 use Rattle.core.specs.Calls.{beginOn}

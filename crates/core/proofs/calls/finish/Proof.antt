@@ -1,4 +1,4 @@
--- `core::calls::finish` meets its contract. Assumes nothing.
+-- `core::calls::finish` meets its contract.
 use mathlib.Core.Path.{_∙_}
 use native.Mathlib.Omega.{arith}
 use Prim.Native.Nat.{_<_}

@@ -1,4 +1,4 @@
--- `core::calls::give_up` meets its contract. Assumes nothing.
+-- `core::calls::give_up` meets its contract.
 use mathlib.Core.Path.{refl, _∙_}
 use native.Mathlib.Omega.{arith}
 use Rattle.core.specs.Calls.{giveUpOn}

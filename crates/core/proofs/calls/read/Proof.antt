@@ -1,4 +1,4 @@
--- `core::calls::read` meets its contract. Assumes nothing.
+-- `core::calls::read` meets its contract.
 use mathlib.Core.Path.{sym, _∙_}
 use Rattle.core.specs.Calls.{readOn}
 use Rattle.core.proofs.CallLaws.{skips, hits, none-holds, refused, accepted}

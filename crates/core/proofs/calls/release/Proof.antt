@@ -1,4 +1,4 @@
--- `core::calls::release` meets its contract. Assumes nothing.
+-- `core::calls::release` meets its contract.
 use mathlib.Core.Path.{sym, _∙_}
 use native.Mathlib.Omega.{arith}
 use borrow.Author.Tests.{le-leb, lt-leb, eq-eqb, ne-eqb}

@@ -1,4 +1,4 @@
--- `core::calls::settle` meets its contract. Assumes nothing.
+-- `core::calls::settle` meets its contract.
 use mathlib.Core.Path.{refl, _∙_}
 use borrow.Author.Tests.{lt-ltb, le-ltb, not-true, not-false}
 use Rattle.core.specs.Calls.{commitOn}

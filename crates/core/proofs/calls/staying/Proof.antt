@@ -1,4 +1,4 @@
--- `core::calls::staying` meets its contract. Assumes nothing.
+-- `core::calls::staying` meets its contract.
 use mathlib.Core.Path.{refl}
 use Rattle.objset.proofs.Laws.{none-zero}
 use borrow.Author.Needs.{needs}

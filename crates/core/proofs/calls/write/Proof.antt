@@ -1,4 +1,4 @@
--- `core::calls::write` meets its contract. Assumes nothing.
+-- `core::calls::write` meets its contract.
 use mathlib.Core.Path.{_∙_}
 use Rattle.core.specs.Calls.{writeOn}
 use Rattle.core.proofs.CallLaws.{skips, hits, none-holds, refused, accepted}

@@ -1,5 +1,4 @@
 -- `core::soundness::is_blank` meets its contract: what is joined is 0 if and only if the sets are empty and the jobs passed are zeros.
--- Assumes nothing.
 use mathlib.Core.Path.{_≡_, sym, ap, ap₂, _∙_}
 use mathlib.Core.Bool.{_&&_, true≢false}
 use Prim.Native.Nat.{ℕ, _+_, _-_, _*_, _^_, _≤_, _<_}

@@ -1,4 +1,4 @@
--- `core::soundness::is_clear` meets its contract. Assumes nothing.
+-- `core::soundness::is_clear` meets its contract.
 use borrow.Author.Needs.{needs}
 use borrow.Author.Tests.{eq-eqb, ne-eqb}
 use Rattle.core.proofs.TestLaws.{holds, breaks}

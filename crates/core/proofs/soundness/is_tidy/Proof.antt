@@ -1,4 +1,4 @@
--- `core::soundness::is_tidy` meets its contract. Assumes nothing.
+-- `core::soundness::is_tidy` meets its contract.
 use mathlib.Core.Path.{_≡_, ap, _∙_}
 use mathlib.Core.Bool.{true}
 use native.Mathlib.Omega.{arith}

@@ -1,4 +1,4 @@
--- `core::soundness::owner_first` meets its contract: every job passed has a greater deadline than the owner's. Assumes nothing.
+-- `core::soundness::owner_first` meets its contract: every job passed has a greater deadline than the owner's.
 use Prim.Native.Nat.{ℕ, _-_, _≤_, _<_}
 use native.Mathlib.Omega.{arith}
 use lib.ListN.{getD}

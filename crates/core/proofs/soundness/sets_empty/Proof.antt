@@ -1,4 +1,4 @@
--- `core::soundness::sets_empty` meets its contract: both sets together are empty. Assumes nothing.
+-- `core::soundness::sets_empty` meets its contract: both sets together are empty.
 use mathlib.Core.Path.{_∙_, ap}
 use Prim.Native.Nat.{ℕ}
 use borrow.Author.Needs.{needs}

@@ -1,4 +1,4 @@
--- `core::soundness::sets_within` meets its contract: both sets together lie within the objects. Assumes nothing.
+-- `core::soundness::sets_within` meets its contract: both sets together lie within the objects.
 use mathlib.Core.Path.{_∙_, ap}
 use Prim.Native.Nat.{ℕ}
 use borrow.Author.Needs.{needs}

@@ -1,4 +1,4 @@
--- `core::soundness::transaction_tidy` meets its contract. Assumes nothing.
+-- `core::soundness::transaction_tidy` meets its contract.
 use mathlib.Core.Path.{_∙_}
 use borrow.Author.Needs.{needs}
 use borrow.Author.Tests.{lt-ltb, le-ltb}

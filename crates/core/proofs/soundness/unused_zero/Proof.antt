@@ -1,4 +1,4 @@
--- `core::soundness::unused_zero` meets its contract: every unused place passed holds zeros. Assumes nothing.
+-- `core::soundness::unused_zero` meets its contract: every unused place passed holds zeros.
 use mathlib.Core.Path.{_≡_}
 use mathlib.Core.Bool.{true}
 use Prim.Native.Nat.{ℕ, _-_, _≤_, _<_}

@@ -1,14 +1,14 @@
 -- `machine::Machine::commit` meets its contract: an unsound record and a table of another length are refused, the rest goes to the
--- inside function. A refusal is not waits. Assumes nothing.
+-- inside function. A refusal is not waits.
 use mathlib.Core.Path.{_≡_, refl}
 use Prim.Native.Nat.{ℕ}
 use borrow.Author.Needs.{needs}
 use Rattle.machine.specs.Rule.{World, Result, commit, rule, Commit}
-use Rattle.machine.specs.Refusals.{refusals}
+use Rattle.machine.specs.Refusals.{refusals, Tabled}
 use Rattle.machine.proofs.Refusals.{smallest-given}
 use Rattle.core.proofs.TestLaws.{holds, breaks}
 use Rattle.machine.proofs.DoorLaws.{unsound-refused, misfit-refused, fine-of, refused-not-waits}
-use Rattle.machine.proofs.Told.{Paper, lent-told}
+use Rattle.machine.proofs.Told.{lent-told}
 use Rattle.machine.proofs.Machine.commit.Statement.{statement}
 use Rattle.machine.proofs.Machine.commit.Tie as tie
 
@@ -17,7 +17,7 @@ is-sound-requires c κs = search needs
 
 -- beside what holds of the core that waits names
 kept : (w : World) (c : ℕ) (r : Result) {Waiting : Type 0} (e : ℕ) → r ≡ commit e w c → Waiting
-    → (r ≡ commit e w c) × (Waiting × Paper (r .answer) (refusals w (Commit c)) (commit e w c .answer))
+    → (r ≡ commit e w c) × (Waiting × Tabled (r .answer) (refusals w (Commit c)) (commit e w c .answer))
 unfolding rule
 kept w c r e p waits = let done = lent-told (smallest-given e w (Commit c)) p in (done .0, (waits, done .1))
 
@@ -52,6 +52,7 @@ same-length-2 : tie.Need-same-length-2
 same-length-2 c = search needs
 
 returns-3 : tie.Need-returns-3
+unfolding rule
 returns-3 c = kept _ _ _ _ (c .before .before .before .before .commit .ensures .0) (c .before .before .before .before .commit .ensures .1)
 
 pub commit-spec : {M : Type 1} → statement M

@@ -1,4 +1,4 @@
--- `machine::Machine::read` meets its contract: an unsound record and a table of another length are refused, the rest goes to the inside function. Assumes nothing.
+-- `machine::Machine::read` meets its contract: an unsound record and a table of another length are refused, the rest goes to the inside function.
 use mathlib.Core.Path.{refl}
 use borrow.Author.Needs.{needs}
 use Rattle.machine.specs.Rule.{rule, Read}

@@ -1,4 +1,4 @@
--- `machine::Machine::setup` meets its contract. Assumes nothing.
+-- `machine::Machine::setup` meets its contract.
 use mathlib.Core.Path.{_≡_, sym, _∙_}
 use mathlib.Core.List.{List}
 use Prim.Native.Nat.{ℕ}
@@ -6,21 +6,21 @@ use native.Mathlib.Omega.{arith}
 use borrow.Author.Needs.{needs}
 use Rattle.machine.specs.declared.Outcome.{Outcome}
 use Rattle.core.specs.declared.Answer.the-variants.{Ready}
-use Rattle.machine.specs.Refusals.{setupRefusals}
+use Rattle.machine.specs.Refusals.{NumberedSetup}
 use Rattle.machine.specs.Rule.{lent, left, setup}
 use Rattle.machine.specs.Claims.{EveryRun}
 use Rattle.machine.proofs.Run.WholeRun.{every-run}
 use Rattle.machine.proofs.Refusals.{setup-smallest-given}
 use Rattle.machine.proofs.Sound.Passed.{in-range}
 use Rattle.machine.proofs.DoorLaws.{setup-range, setup-misfit, setup-made}
-use Rattle.machine.proofs.Told.{Paper, lent-told}
+use Rattle.machine.proofs.Told.{lent-told}
 use Rattle.machine.proofs.Machine.setup.Statement.{statement}
 use Rattle.machine.proofs.Machine.setup.Tie as tie
 
 -- the rule's equation gives the claim about every run that follows
 kept : (cores objects : ℕ) (committed pending : List ℕ) (r : Outcome) (cs ps : List ℕ) → left r cs ps ≡ setup cores objects committed pending
     → (left r cs ps ≡ setup cores objects committed pending)
-    × ((r .answer ≡ Ready → EveryRun (lent (r .machine) cs ps)) × Paper (r .answer) (setupRefusals cores objects committed pending) (setup cores objects committed pending .answer))
+    × ((r .answer ≡ Ready → EveryRun (lent (r .machine) cs ps)) × NumberedSetup cores objects committed pending (r .answer))
 kept cores objects committed pending r cs ps e =
     (e, (every-run cores objects committed pending r cs ps e, lent-told (setup-smallest-given cores objects committed pending) e .1))
 

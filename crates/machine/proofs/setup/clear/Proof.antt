@@ -1,5 +1,4 @@
 -- `machine::setup::clear` meets its contract: after i turns the first i words are zero and the others as they were.
--- Assumes nothing.
 use mathlib.Core.Path.{_≡_, refl, ap, _∙_}
 use mathlib.Core.List.{List, _++_, append-nil}
 use Prim.Native.Nat.{ℕ, _-_, _≤_}

@@ -1,4 +1,4 @@
--- `machine::setup::fresh` meets its contract. Assumes nothing.
+-- `machine::setup::fresh` meets its contract.
 use mathlib.Core.Path.{refl}
 use borrow.Author.Needs.{needs}
 use Rattle.machine.proofs.setup.fresh.Statement.{statement}

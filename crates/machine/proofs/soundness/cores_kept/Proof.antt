@@ -1,4 +1,4 @@
--- `machine::soundness::cores_kept` meets its contract: each core passed keeps the rules, and each transaction is counted. Assumes nothing.
+-- `machine::soundness::cores_kept` meets its contract: each core passed keeps the rules, and each transaction is counted.
 use mathlib.Core.Path.{_≡_, refl, ap₂, _∙_}
 use mathlib.Core.Bool.{true, _&&_}
 use Prim.Native.Nat.{_-_, _≤_}
@@ -6,11 +6,11 @@ use native.Mathlib.Omega.{arith}
 use mathlib.Core.Logic.{⊎-elim}
 use borrow.Author.Needs.{needs}
 use Rattle.objset.specs.Objset.{each}
-use Rattle.machine.specs.Record.{coreAt, tally}
+use Rattle.machine.specs.Record.{coreAt, activeAt, tally}
 use Rattle.core.proofs.Tidy.{blank-core}
 use Rattle.core.proofs.TestLaws.{holds, breaks, each-none, each-more}
 use Rattle.machine.proofs.Tally.{tally-none, tally-counts, tally-skips}
-use Rattle.machine.proofs.SoundLaws.{activeAt, keptAt, tidy-had, tidy-lacked, turn-on, turn-off, kept-fails, kept-all}
+use Rattle.machine.proofs.SoundLaws.{keptAt, tidy-had, tidy-lacked, turn-on, turn-off, kept-fails, kept-all}
 use Rattle.machine.proofs.soundness.cores_kept.Statement.{statement}
 use Rattle.machine.proofs.soundness.cores_kept.Tie as tie
 

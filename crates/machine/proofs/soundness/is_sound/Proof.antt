@@ -1,4 +1,4 @@
--- `machine::soundness::is_sound` meets its contract. Assumes nothing.
+-- `machine::soundness::is_sound` meets its contract.
 use borrow.Author.Needs.{needs}
 use Rattle.core.proofs.TestLaws.{holds, breaks}
 use Rattle.machine.specs.Sound.{inRange}

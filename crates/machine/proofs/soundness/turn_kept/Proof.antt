@@ -1,5 +1,4 @@
 -- `machine::soundness::turn_kept` meets its contract: the count is of the cores passed, and those before core c have other tickets.
--- Assumes nothing.
 use mathlib.Core.Path.{_≡_, refl, sym, ap}
 use mathlib.Core.Bool.{true, false}
 use Prim.Native.Nat.{ℕ, _+_, _-_, _≤_, _<_}
@@ -13,20 +12,21 @@ use Rattle.objset.proofs.Laws.{one-each}
 use Rattle.machine.specs.Record.{coreAt, tally}
 use Rattle.core.proofs.TestLaws.{each-fails}
 use Rattle.machine.proofs.Tally.{tally-none, tally-counts, tally-skips}
-use Rattle.machine.proofs.SoundLaws.{aheadAt, ahead-all, differsFrom}
+use Rattle.machine.specs.Sound.{smallerAt}
+use Rattle.machine.proofs.SoundLaws.{ahead-all, differsFrom}
 use Rattle.machine.proofs.soundness.turn_kept.Statement.{statement}
 use Rattle.machine.proofs.soundness.turn_kept.Tie as tie
 
 abbrev Inv-loop : tie.InvT-loop
 Inv-loop c ticket aborts m n₀ e₀ n e =
-    (e ≤ 16) × (n ≤ aborts + e) × (n ≡ aborts + tally e (aheadAt m ticket))
+    (e ≤ 16) × (n ≤ aborts + e) × (n ≡ aborts + tally e (smallerAt m ticket))
     × ((x : ℕ) → x < e → x < c → differsFrom m ticket x ≡ true)
 
 abbrev μ-loop : tie.MeasureT-loop
 μ-loop c ticket aborts m n₀ e₀ n e = 16 - e
 
 loop-holds : tie.Need-loop-holds Inv-loop μ-loop
-loop-holds c = (omega arith, omega arith, omega (arith, tally-none (aheadAt (c .args .t1) (c .args .ticket))), below-none _)
+loop-holds c = (omega arith, omega arith, omega (arith, tally-none (smallerAt (c .args .t1) (c .args .ticket))), below-none _)
 
 mul-k : tie.Need-mul-k Inv-loop μ-loop
 mul-k c = search needs
@@ -55,7 +55,7 @@ loop-again : tie.Need-loop-again Inv-loop μ-loop
 loop-again c =
     let l = c .before .before .before in
     let s = l .before .args in
-    let f = aheadAt (s .t1) (s .ticket) in
+    let f = smallerAt (s .t1) (s .ticket) in
     let e = l .loop .e in
     let counts : f e ≡ true → tally e f + 1 ≡ tally (e + 1) f = tally-counts (tally e f) e f refl in
     let skips : f e ≡ false → tally e f ≡ tally (e + 1) f = tally-skips (tally e f) e f refl in (

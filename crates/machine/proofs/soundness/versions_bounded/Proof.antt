@@ -1,4 +1,4 @@
--- `machine::soundness::versions_bounded` meets its contract: the answer is of the versions passed. Assumes nothing.
+-- `machine::soundness::versions_bounded` meets its contract: the answer is of the versions passed.
 use mathlib.Core.Path.{_≡_, refl, sym, ap, _∙_}
 use mathlib.Core.Bool.{Bool, true, false, _&&_}
 use Prim.Native.Nat.{ℕ, _-_, _≤_, _<_}
@@ -11,7 +11,7 @@ use borrow.Author.Tests.{le-leb, lt-leb, eq-eqb, ne-eqb}
 use Rattle.objset.specs.Objset.{each}
 use Rattle.machine.specs.declared.Machine.{Machine}
 use Rattle.core.proofs.TestLaws.{each-fails, each-none, each-on}
-use Rattle.machine.proofs.SoundLaws.{versionAt, versions-bounded}
+use Rattle.machine.proofs.SoundLaws.{cardAt, versions-bounded}
 use Rattle.machine.proofs.soundness.versions_bounded.Statement.{statement}
 use Rattle.machine.proofs.soundness.versions_bounded.Tie as tie
 
@@ -23,7 +23,7 @@ module _ (m : Machine) (d most : ℕ) (at-most : Most m d most) where
   version : ℕ
   version = getD (m .versions) d 0
 
-  fits : version ≤ most → versionAt m d ≡ true
+  fits : version ≤ most → cardAt m d ≡ true
   unfolding Most version
   fits l =
       ⊎-elim (λ w. rw (le-leb version (m .commits) (omega (arith, w .1)), lt-leb (m .objects) d (w .0)))
@@ -33,7 +33,7 @@ module _ (m : Machine) (d most : ℕ) (at-most : Most m d most) where
         eq-eqb version 0 (omega (arith, w .1)),
       )) at-most
 
-  exceeds : most < version → versionAt m d ≡ false
+  exceeds : most < version → cardAt m d ≡ false
   unfolding Most version
   exceeds l =
       ⊎-elim (λ w. rw (lt-leb version (m .commits) (omega (arith, w .1))))
@@ -44,7 +44,7 @@ module _ (m : Machine) (d most : ℕ) (at-most : Most m d most) where
       and-false false = refl
 
 abbrev Inv-loop : tie.InvT-loop
-Inv-loop m objects kept₀ d₀ kept d = (d ≤ 64) × (kept ≡ each d (versionAt m))
+Inv-loop m objects kept₀ d₀ kept d = (d ≤ 64) × (kept ≡ each d (cardAt m))
 
 abbrev μ-loop : tie.MeasureT-loop
 μ-loop m objects kept₀ d₀ kept d = 64 - d
@@ -75,15 +75,15 @@ loop-again c =
     let most = c .before .before .if1 in
     let at-most : Most m (l .loop .d) (most .most) = ⊎-elim (λ w. inl (w .0 .taken, w .1)) (λ w. inr (w .0 .left, w .1)) (most .came) in (
       omega arith,
-      ⊎-elim (λ w. w .1 ∙ each-fails _ (versionAt m) (l .loop .d) (omega arith) (exceeds m _ _ at-most (w .0 .taken)))
-          (λ w. w .1 ∙ l .loop .inv .1 ∙ each-on (l .loop .d) (versionAt m) (fits m _ _ at-most (w .0 .left))) (c .if2 .came),
+      ⊎-elim (λ w. w .1 ∙ each-fails _ (cardAt m) (l .loop .d) (omega arith) (exceeds m _ _ at-most (w .0 .taken)))
+          (λ w. w .1 ∙ l .loop .inv .1 ∙ each-on (l .loop .d) (cardAt m) (fits m _ _ at-most (w .0 .left))) (c .if2 .came),
     )
 
 returns : tie.Need-returns Inv-loop μ-loop
 returns c =
     let l = c .before in
     let m = l .before .args .t1 in
-    l .loop .inv .1 ∙ ap (λ (x : ℕ). each x (versionAt m)) (omega arith) ∙ versions-bounded m
+    l .loop .inv .1 ∙ ap (λ (x : ℕ). each x (cardAt m)) (omega arith) ∙ versions-bounded m
 
 pub versions-bounded-spec : {M : Type 1} → statement M
 versions-bounded-spec =

@@ -13,7 +13,7 @@ use borrow.Author.Needs.{needs}
 use Rattle.core.specs.declared.Core.{Core}
 use Rattle.core.specs.declared.Answer.{Answer}
 use Rattle.core.specs.declared.calls.Settled.{Settled}
-use Rattle.machine.specs.Inside.{Good}
+use Rattle.machine.specs.Inside.{WellFormedWorld}
 use Rattle.machine.proofs.Sound.Keeps.{whole}
 use Rattle.machine.proofs.CoreCalls.{to-core, core-there, object-there, to-slot, to-fits}
 use Rattle.machine.proofs.CoreLists.{strikes-reached}
@@ -78,7 +78,7 @@ room : (c : tie.After-end-line Inv-loop2 μ-loop2 Inv-loop μ-loop) → head c .
 room c = room-left (head c .loop .inv) (c .before .before .before .before .before .loop-test .taken) (head c .before .before .before .before .before .before .before .before .pre .1)
 
 -- a call that needs a machine finds one
-good : (c : tie.After-end-line Inv-loop2 μ-loop2 Inv-loop μ-loop) (b : Asked) → c .end-line .result ≡ b → calls b ≡ true → Good (held (head c .loop .machine) (head c .loop .committed) (head c .loop .pending))
+good : (c : tie.After-end-line Inv-loop2 μ-loop2 Inv-loop μ-loop) (b : Asked) → c .end-line .result ≡ b → calls b ≡ true → WellFormedWorld (held (head c .loop .machine) (head c .loop .committed) (head c .loop .pending))
 good c b same needs = good-if-some _ _ _ (head c .loop .inv .fit .holds) (founded _ _ _ _ _ (c .end-line .ensures) b same needs)
 
 add-number : tie.Need-add-number Inv-loop2 μ-loop2 Inv-loop μ-loop
@@ -179,17 +179,17 @@ loop-again-3 c =
 enum-known-asked-4 : tie.Need-enum-known-asked-4 Inv-loop2 μ-loop2 Inv-loop μ-loop
 enum-known-asked-4 c = search needs
 
-good-commit : (c : tie.After-known-told4 Inv-loop2 μ-loop2 Inv-loop μ-loop) → let e = c .before .before .before in Good (held (head e .loop .machine) (head e .loop .committed) (head e .loop .pending))
+good-commit : (c : tie.After-known-told4 Inv-loop2 μ-loop2 Inv-loop μ-loop) → let e = c .before .before .before in WellFormedWorld (held (head e .loop .machine) (head e .loop .committed) (head e .loop .pending))
 good-commit c = good (c .before .before .before) _ (c .before .asked4 .given .1) refl
 
 find-requires : tie.Need-find-requires Inv-loop2 μ-loop2 Inv-loop μ-loop
 find-requires c κs = search needs
 
 here : (c : tie.After-find Inv-loop2 μ-loop2 Inv-loop μ-loop) → c .find .result .core < head (c .before .before .before .before) .loop .machine .cores
-here c = to-core _ (good-commit (c .before) .is-sound) _ _ _ (c .find .ensures)
+here c = to-core _ (good-commit (c .before) .world-sound .is-sound) _ _ _ (c .find .ensures)
 
 there : (c : tie.After-find Inv-loop2 μ-loop2 Inv-loop μ-loop) → c .find .result .core < 16
-there c = core-there _ (good-commit (c .before) .is-sound) _ _ _ (c .find .ensures)
+there c = core-there _ (good-commit (c .before) .world-sound .is-sound) _ _ _ (c .find .ensures)
 
 mul-k : tie.Need-mul-k Inv-loop2 μ-loop2 Inv-loop μ-loop
 mul-k c = record { fits = omega (arith, there c) }
@@ -211,13 +211,13 @@ element-set-from-after c = there (c .before .before .before .before)
 
 -- what the commit gives can be carried out
 able : (c : tie.After-settle Inv-loop2 μ-loop2 Inv-loop μ-loop) → let at = c .before .before .before in
-    Ready (head (at .before .before .before .before) .loop .machine) (good-commit (at .before) .is-sound) (at .find .result .core) (c .settle .result)
+    Ready (head (at .before .before .before .before) .loop .machine) (good-commit (at .before) .world-sound .is-sound) (at .find .result .core) (c .settle .result)
 able c =
     let at = c .before .before .before in
     let g = good-commit (at .before) in
     let m = head (at .before .before .before .before) .loop .machine in
-    subst (λ (r : Settled). Ready m (g .is-sound) (at .find .result .core) r) (sym (c .settle .ensures))
-    (ready m (g .is-sound) (at .find .result .core) _ _ (here at) (g .formed .core-long) (g .formed .tickets-fit))
+    subst (λ (r : Settled). Ready m (g .world-sound .is-sound) (at .find .result .core) r) (sym (c .settle .ensures))
+    (ready m (g .world-sound .is-sound) (at .find .result .core) _ _ (here at) (g .formed .core-long) (g .formed .tickets-fit))
 
 add-machine : tie.Need-add-machine Inv-loop2 μ-loop2 Inv-loop μ-loop
 add-machine c = record { fits = omega (arith, able (c .before .before) .counted) }
@@ -340,7 +340,7 @@ loop-again-4 c =
 enum-known-asked-5 : tie.Need-enum-known-asked-5 Inv-loop2 μ-loop2 Inv-loop μ-loop
 enum-known-asked-5 c = search needs
 
-good-one : (c : tie.After-known-told5 Inv-loop2 μ-loop2 Inv-loop μ-loop) → let e = c .before .before .before in Good (held (head e .loop .machine) (head e .loop .committed) (head e .loop .pending))
+good-one : (c : tie.After-known-told5 Inv-loop2 μ-loop2 Inv-loop μ-loop) → let e = c .before .before .before in WellFormedWorld (held (head e .loop .machine) (head e .loop .committed) (head e .loop .pending))
 good-one c = good (c .before .before .before) _ (c .before .asked5 .given .1) refl
 
 object-of-requires : tie.Need-object-of-requires Inv-loop2 μ-loop2 Inv-loop μ-loop
@@ -350,16 +350,16 @@ find-requires-2 : tie.Need-find-requires-2 Inv-loop2 μ-loop2 Inv-loop μ-loop
 find-requires-2 c κs = search needs
 
 there-one : (c : tie.After-find2 Inv-loop2 μ-loop2 Inv-loop μ-loop) → c .find2 .result .core < 16
-there-one c = core-there _ (good-one (c .before .before) .is-sound) _ _ _ (c .find2 .ensures)
+there-one c = core-there _ (good-one (c .before .before) .world-sound .is-sound) _ _ _ (c .find2 .ensures)
 
 card : (c : tie.After-find2 Inv-loop2 μ-loop2 Inv-loop μ-loop) → c .find2 .result .object < 64
-card c = object-there _ (good-one (c .before .before) .is-sound) _ _ _ (c .find2 .ensures)
+card c = object-there _ (good-one (c .before .before) .world-sound .is-sound) _ _ _ (c .find2 .ensures)
 
 -- the pending word of the core and the card found
 slot : (c : tie.After-find2 Inv-loop2 μ-loop2 Inv-loop μ-loop) → let m = head (c .before .before .before .before .before) .loop .machine in c .find2 .result .core * m .objects + c .find2 .result .object < 1024
 slot c =
     let m = head (c .before .before .before .before .before) .loop .machine in
-    omega (arith, to-slot m (good-one (c .before .before) .is-sound) _ _ _ (c .find2 .ensures), own-words _ _ _ (head (c .before .before .before .before .before) .loop .inv .fit .holds))
+    omega (arith, to-slot m (good-one (c .before .before) .world-sound .is-sound) _ _ _ (c .find2 .ensures), own-words _ _ _ (head (c .before .before .before .before .before) .loop .inv .fit .holds))
 
 cast-at : tie.Need-cast-at Inv-loop2 μ-loop2 Inv-loop μ-loop
 cast-at c = record { fits = omega (arith, whole (good-one (c .before .before)) .rules .few-objects) }
@@ -398,7 +398,7 @@ act-on-requires : tie.Need-act-on-requires Inv-loop2 μ-loop2 Inv-loop μ-loop
 act-on-requires c κs =
     let at = c .before .before .before .before in
     let g = good-one (at .before .before) in
-    to-fits _ (g .is-sound) _ _ _ (at .find2 .ensures) _ refl (g .formed .tickets-fit)
+    to-fits _ (g .world-sound .is-sound) _ _ _ (at .find2 .ensures) _ refl (g .formed .tickets-fit)
 
 mul-after-2 : tie.Need-mul-after-2 Inv-loop2 μ-loop2 Inv-loop μ-loop
 mul-after-2 c = record { fits = omega (arith, there-one (c .before .before .before .before .before .before)) }

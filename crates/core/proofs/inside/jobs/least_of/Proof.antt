@@ -1,5 +1,4 @@
 -- `core::inside::jobs::least_of` meets its contract: after the turn of place i, the best so far is the least of the first i + 1.
--- Assumes nothing.
 use mathlib.Core.Path.{_≡_, refl, sym, ap, _∙_}
 use mathlib.Core.List.{List}
 use mathlib.Core.Logic.{⊎-elim}

@@ -1,4 +1,4 @@
--- `core::inside::jobs::leave` meets its contract. Assumes nothing.
+-- `core::inside::jobs::leave` meets its contract.
 use mathlib.Core.Path.{refl}
 use borrow.Author.Needs.{needs}
 use Rattle.core.proofs.inside.jobs.leave.Statement.{statement}

@@ -1,5 +1,4 @@
 -- `core::inside::jobs::remove` meets its contract: at place i, the list without its job i is what is to be returned.
--- Assumes nothing.
 use mathlib.Core.Path.{_≡_, refl, sym, ap, _∙_}
 use mathlib.Core.List.{List}
 use Prim.Native.Nat.{_-_, _≤_}

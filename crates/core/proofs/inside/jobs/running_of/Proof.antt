@@ -1,4 +1,4 @@
--- `core::inside::jobs::running_of` meets its contract. Assumes nothing.
+-- `core::inside::jobs::running_of` meets its contract.
 use mathlib.Core.Path.{_∙_}
 use borrow.Author.Needs.{needs}
 use Rattle.core.proofs.JobLaws.{running-owner, running-least}

@@ -1,4 +1,4 @@
--- `core::inside::transaction::abort` meets its contract. Assumes nothing.
+-- `core::inside::transaction::abort` meets its contract.
 use mathlib.Core.Path.{refl}
 use borrow.Author.Needs.{needs}
 use Rattle.objset.proofs.Laws.{none-zero}

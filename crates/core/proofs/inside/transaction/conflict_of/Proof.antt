@@ -1,4 +1,4 @@
--- `core::inside::transaction::conflict_of` meets its contract. Assumes nothing.
+-- `core::inside::transaction::conflict_of` meets its contract.
 use mathlib.Core.Path.{sym, _∙_}
 use Rattle.core.proofs.LifeLaws.{conflict-left, conflict-right}
 use borrow.Author.Needs.{needs}

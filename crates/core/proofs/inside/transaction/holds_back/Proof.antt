@@ -1,4 +1,4 @@
--- `core::inside::transaction::holds_back` meets its contract. Assumes nothing.
+-- `core::inside::transaction::holds_back` meets its contract.
 use borrow.Author.Tests.{lt-ltb, le-ltb}
 use borrow.Author.Needs.{needs}
 use Rattle.core.proofs.inside.transaction.holds_back.Statement.{statement}

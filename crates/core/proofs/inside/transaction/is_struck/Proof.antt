@@ -1,4 +1,4 @@
--- `core::inside::transaction::is_struck` meets its contract. Assumes nothing.
+-- `core::inside::transaction::is_struck` meets its contract.
 use mathlib.Core.Path.{_∙_}
 use borrow.Author.Needs.{needs}
 use Rattle.core.proofs.LifeLaws.{data-met}

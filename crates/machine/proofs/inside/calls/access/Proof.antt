@@ -1,4 +1,4 @@
--- `machine::inside::calls::access` meets its contract. Assumes nothing.
+-- `machine::inside::calls::access` meets its contract.
 use mathlib.Core.Path.{refl}
 use Prim.Native.Nat.{_+_, _*_, _≤_, _<_}
 use native.Mathlib.Omega.{arith}

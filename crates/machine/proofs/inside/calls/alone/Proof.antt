@@ -1,4 +1,4 @@
--- `machine::inside::calls::alone` meets its contract. Assumes nothing.
+-- `machine::inside::calls::alone` meets its contract.
 use mathlib.Core.Path.{_≡_, refl, sym, ap, ap₂}
 use Prim.Native.Nat.{ℕ, _*_, _<_}
 use mathlib.Core.Bool.{true}
@@ -6,7 +6,7 @@ use native.Mathlib.Omega.{arith}
 use lib.ListN.{getD, length-replicate, getD-replicate}
 use Rattle.machine.specs.declared.Machine.{Machine}
 use Rattle.machine.specs.Sound.{sound}
-use Rattle.machine.specs.Inside.{Fine}
+use Rattle.machine.specs.Inside.{SoundWorld}
 use Rattle.machine.specs.OneCore.{zeroed, handed}
 use Rattle.machine.proofs.CoreCalls.{by-core-at, to-object, core-there, object-there, to-slot, to-fits}
 use borrow.Author.Needs.{needs}
@@ -20,7 +20,7 @@ card : (c : tie.After-find) → c .find .result .object < 64
 card c = object-there _ (c .before .before .pre) _ _ _ (c .find .ensures)
 
 -- tables of zeros are of the right lengths
-zeroed-fine : (m : Machine) → sound m ≡ true → Fine (zeroed m)
+zeroed-fine : (m : Machine) → sound m ≡ true → SoundWorld (zeroed m)
 zeroed-fine m s =
     record { is-sound = s; committed-long = length-replicate (m .objects) 0; pending-long = length-replicate (m .cores * m .objects) 0 }
 

@@ -1,4 +1,4 @@
--- `machine::inside::calls::find` meets its contract. Assumes nothing.
+-- `machine::inside::calls::find` meets its contract.
 use mathlib.Core.Path.{refl}
 use borrow.Author.Tests.{lt-ltb, le-ltb}
 use Rattle.machine.specs.OneCore.{found}

@@ -1,4 +1,4 @@
--- `machine::inside::commit::ahead_of` meets its contract: after the turn of core e, it is the first of the cores from e on. Assumes nothing.
+-- `machine::inside::commit::ahead_of` meets its contract: after the turn of core e, it is the first of the cores from e on.
 use mathlib.Core.Path.{_≡_, sym, ap, _∙_}
 use Prim.Native.Nat.{ℕ, _-_, _≤_}
 use native.Mathlib.Omega.{arith}

@@ -1,4 +1,4 @@
--- `machine::inside::commit::commit` meets its contract. Assumes nothing.
+-- `machine::inside::commit::commit` meets its contract.
 use mathlib.Core.Path.{sym, subst}
 use Prim.Native.Nat.{_<_}
 use native.Mathlib.Omega.{arith}

@@ -1,4 +1,4 @@
--- `machine::inside::commit::reach_of` meets its contract. Assumes nothing.
+-- `machine::inside::commit::reach_of` meets its contract.
 use mathlib.Core.Path.{refl}
 use borrow.Author.Tests.{eq-eqb, ne-eqb}
 use Rattle.machine.proofs.inside.commit.reach_of.Statement.{statement}

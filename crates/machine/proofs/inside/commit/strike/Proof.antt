@@ -1,11 +1,11 @@
--- `machine::inside::commit::strike` meets its contract. Assumes nothing.
+-- `machine::inside::commit::strike` meets its contract.
 use mathlib.Core.Path.{refl, sym, ap, _∙_}
 use mathlib.Core.Logic.{⊎-elim}
 use Prim.Native.Nat.{_-_, _≤_}
 use native.Mathlib.Omega.{arith}
 use lib.ListN.{set}
 use Rattle.core.specs.declared.Core.{Core}
-use Rattle.machine.specs.OneCore.{strikes}
+use Rattle.machine.specs.OneCore.{struckAll}
 use Rattle.machine.proofs.Front.{Stands}
 use Rattle.machine.proofs.CoreLists.{strikes-next, strikes-hit, strikes-missed, strikes-done}
 use borrow.Author.Needs.{needs}
@@ -13,7 +13,7 @@ use Rattle.machine.proofs.inside.commit.strike.Statement.{statement}
 use Rattle.machine.proofs.inside.commit.strike.Tie as tie
 
 abbrev Inv-loop : tie.InvT-loop
-Inv-loop ws cores₀ e₀ cores e = (e ≤ 16) × Stands e (strikes ws cores₀) cores₀ cores
+Inv-loop ws cores₀ e₀ cores e = (e ≤ 16) × Stands e (struckAll ws cores₀) cores₀ cores
 
 abbrev μ-loop : tie.MeasureT-loop
 μ-loop ws cores₀ e₀ cores e = 16 - e

@@ -1,4 +1,4 @@
--- `machine::inside::commit::write_back` meets its contract. Assumes nothing.
+-- `machine::inside::commit::write_back` meets its contract.
 use mathlib.Core.Path.{_≡_, refl, sym, _∙_}
 use mathlib.Core.Logic.{⊎-elim}
 use Prim.Native.Nat.{ℕ, _+_, _<_}
