@@ -1,13 +1,13 @@
 -- What callers may use of the definitions of specs/Objset.antt: every law speaks of membership alone.
 -- A set is a word below 2 to the power 64, as each u64 is.
-use mathlib.Core.Path.{_≡_, refl, sym, ap, ap₂, _∙_, fun-ext}
+use mathlib.Core.Path.{_≡_, refl, sym, ap, ap₂, _∙_}
 use mathlib.Core.Bool.{Bool, true, false, not, _&&_, _||_, true≢false}
 use Prim.Native.Nat.{ℕ, zero, suc, _^_, _≤_, _<_}
 use native.Mathlib.Omega.{arith}
 use lib.Dec.{eqb, ltb}
-use borrow.Author.Tests.{ltb-true, ltb-false, lt-ltb, le-ltb, eqb-true, eqb-false, ne-eqb}
+use borrow.Author.Tests.{ltb-true, ltb-false, lt-ltb, eqb-true, eqb-false, ne-eqb}
 use Rattle.objset.specs.Objset.{has, collect, some, each, none, added, joined, meeting, below}
-use Rattle.objset.proofs.Digits.{has-zero, has-past, same-digits, collect-fits, has-collect}
+use Rattle.objset.proofs.Digits.{has-past, same-digits, collect-fits, has-collect}
 
 -- ---- tests over the first n objects
 
@@ -150,10 +150,6 @@ meeting-one a b e =
 pub one-meeting : (a b d : ℕ) → a < 2 ^ 64 → has a d ≡ true → has b d ≡ true → meeting a b ≡ true
 unfolding meeting
 one-meeting a b d ha p q = one-some 64 (λ x. has a x && has b x) d (member-bound a d ha p) (ap₂ _&&_ p q)
-
-pub meeting-comm : (a b : ℕ) → meeting a b ≡ meeting b a
-unfolding meeting
-meeting-comm a b = ap (some 64) (fun-ext (λ d. and-comm (has a d) (has b d)))
 
 pub none-meeting : (b : ℕ) → meeting none b ≡ false
 none-meeting b = go (meeting none b) refl

@@ -1,12 +1,11 @@
 -- The laws of joining and meeting over any number of words.
-use mathlib.Core.Path.{_≡_, refl, sym, ap, ap₂, _∙_}
+use mathlib.Core.Path.{_≡_, refl, sym, ap, _∙_}
 use mathlib.Core.Bool.{Bool, true, false, _||_, true≢false}
 use mathlib.Core.List.{List, [], _∷_}
 use Prim.Native.Nat.{ℕ, zero, suc, _+_, _*_, _/_, _%_, _<_}
-use native.Mathlib.Nat.{mod-eq-of-lt, div-eq-of-lt}
 use native.Mathlib.Omega.{arith}
 use lib.ListN.{getD}
-use Rattle.objset.specs.Objset.{has, joined, meeting}
+use Rattle.objset.specs.Objset.{has, meeting}
 use Rattle.objset.specs.Words.{Words, hasIn, joinedAll, meetingAll}
 use Rattle.objset.proofs.Digits.{has-zero}
 use Rattle.objset.proofs.Laws.{has-joined, meeting-one, one-meeting}
@@ -69,8 +68,3 @@ at-both (x ∷ xs) (y ∷ ys) (suc w) d ha p q = ap (λ (b : Bool). meeting x y 
 pub one-meetingAll : (xs ys : List ℕ) (d : ℕ) → Words xs → hasIn xs d ≡ true → hasIn ys d ≡ true → meetingAll xs ys ≡ true
 unfolding hasIn
 one-meetingAll xs ys d ha p q = at-both xs ys (d / 64) (d % 64) ha p q
-
--- one word: the laws of a list of one word are those of the word
-pub hasIn-one : (s d : ℕ) → d < 64 → hasIn (s ∷ []) d ≡ has s d
-unfolding hasIn
-hasIn-one s d h = ap₂ (λ (w e : ℕ). has (getD (s ∷ []) w 0) e) (div-eq-of-lt h) (mod-eq-of-lt h)

@@ -3,22 +3,17 @@
 use mathlib.Core.Path.{_≡_, refl, sym, ap₂, subst, _∙_}
 use mathlib.Core.Bool.{Bool, true, false, cond, not, _&&_, _||_, true≢false}
 use mathlib.Core.List.{List}
-use Prim.Native.Nat.{ℕ, zero, suc, _*_, _^_, _≤_, _<_}
+use Prim.Native.Nat.{ℕ, zero, suc, _*_}
 use native.Mathlib.Omega.{arith}
-use lib.ListN.{getD, length}
+use lib.ListN.{length}
 use borrow.Author.Tests.{eq-eqb}
-use Rattle.machine.specs.declared.Machine.{Machine}
-use Rattle.core.specs.declared.Answer.{Answer}
 use Rattle.machine.specs.Record.{coreAt}
 use Rattle.machine.specs.Sound.{sound}
 use Rattle.machine.specs.Answers.{refusalNumber}
 use Rattle.machine.specs.Rule.{World, Result, unlessLent, setBackTold, valued, read, written, write, blocked, through, waiting, commit, rule, Call, Release, Begin, Read, Write, Commit, GiveUp, Finish}
 use Rattle.machine.specs.Refusals.{at, refusals, applies, Smallest}
 use Rattle.machine.proofs.Refusals.{smallest-given}
-use Rattle.machine.proofs.Case.{Case}
-use Rattle.machine.proofs.Sound.Standing.{Standing, standing}
 use Rattle.machine.specs.Inside.{WellFormedWorld}
-use Rattle.machine.proofs.Sound.Keeps.{keeps-good}
 
 -- ---- after an accepted setup refusals 2 and 3 never come
 
@@ -43,61 +38,6 @@ never-misfit e {w} call g p =
     ap₂ _&&_ (eq-eqb (length (w .committed)) (w .machine .objects) (g .world-sound .committed-long))
     (eq-eqb (length (w .pending)) (w .machine .cores * w .machine .objects) (g .world-sound .pending-long)) in
     true≢false (sym fit ∙ failed (at call false false true true true false false) _ (given-applies e w call 2 p))
-
--- ---- no number outgrows its width
-
-pub record Fits (m : Machine) : Type 0 where
-  pub cores-fit : m .cores ≤ 16
-  pub objects-fit : m .objects ≤ 64
-  pub tickets-fit : m .tickets ≤ 4294967295
-  pub commits-fit : m .commits ≤ 4294967295
-  pub give-ups-fit : m .«give_ups» ≤ 4294967295
-  pub versions-fit : (d : ℕ) → d < 64 → getD (m .versions) d 0 ≤ 4294967295
-  pub count-fits : (c : ℕ) → c < 16 → coreAt m c .count ≤ 8
-  pub owner-fits : (c : ℕ) → c < 16 → coreAt m c .owner ≤ 7
-  pub ticket-fits : (c : ℕ) → c < 16 → coreAt m c .ticket ≤ 4294967294
-  pub aborts-fit : (c : ℕ) → c < 16 → coreAt m c .aborts ≤ 15
-  pub sets-fit : (c : ℕ) → c < 16 → (coreAt m c .reads < 2 ^ 64) × (coreAt m c .writes < 2 ^ 64)
-
-pub good-fits : {w : World} → WellFormedWorld w → Fits (w .machine)
-good-fits {w} g =
-    record {
-      cores-fit = s .few-cores;
-      objects-fit = s .few-objects;
-      tickets-fit = g .formed .tickets-fit;
-      commits-fit = commits;
-      give-ups-fit = omega (arith, s .turns .counted, g .formed .tickets-fit);
-      versions-fit = λ d l. omega (arith, s .versions-bounded d l, commits);
-      count-fits = λ c l. s .tidy c l .at-most-eight;
-      owner-fits = λ c l. owner c l (coreAt m c .active) refl;
-      ticket-fits = λ c l. ticket c l (coreAt m c .active) refl;
-      aborts-fit = λ c l. aborts c l (coreAt m c .active) refl;
-      sets-fit = λ c l. (g .formed .formed-core c l .reads-fit, g .formed .formed-core c l .writes-fit);
-    }
-  where
-    m : Machine
-    m = w .machine
-
-    s : Standing m
-    s = standing (g .world-sound .is-sound)
-
-    commits : m .commits ≤ 4294967295
-    commits = omega (arith, s .turns .counted, g .formed .tickets-fit)
-
-    owner : (c : ℕ) → c < 16 → (b : Bool) → coreAt m c .active ≡ b → coreAt m c .owner ≤ 7
-    owner c l true a = omega (arith, s .tidy c l .owner-listed a, s .tidy c l .at-most-eight)
-    owner c l false a = omega (arith, s .tidy c l .idle-clear a .no-owner)
-
-    ticket : (c : ℕ) → c < 16 → (b : Bool) → coreAt m c .active ≡ b → coreAt m c .ticket ≤ 4294967294
-    ticket c l true a = omega (arith, s .turns .given c l a, g .formed .tickets-fit)
-    ticket c l false a = omega (arith, s .tidy c l .idle-clear a .no-ticket)
-
-    aborts : (c : ℕ) → c < 16 → (b : Bool) → coreAt m c .active ≡ b → coreAt m c .aborts ≤ 15
-    aborts c l true a = omega (arith, s .turns .bounded c l a, s .few-cores)
-    aborts c l false a = omega (arith, s .tidy c l .idle-clear a .no-aborts)
-
-pub stays-fitting : {w w′ : World} {call : Call} {a : Answer} → Case w call a w′ → WellFormedWorld w → Fits (w′ .machine)
-stays-fitting step g = good-fits (keeps-good step g)
 
 -- ---- which calls change a table
 
