@@ -1,5 +1,4 @@
--- Where the loop of a commit that strikes one core after another stands, over plain variables: for whoever commits in place. Assumes
--- nothing.
+-- Where the loop of a commit that strikes one core after another stands, over plain variables: for whoever commits in place.
 use mathlib.Core.Path.{_≡_, sym, ap, subst, _∙_}
 use mathlib.Core.Bool.{Bool, true, false, cond}
 use mathlib.Core.List.{List}

@@ -1,5 +1,5 @@
--- What every single call keeps to: after an accepted setup no record is unsound and no table's length wrong; no number outgrows
--- its width; only write changes a pending word, only commit a committed one.
+-- What every single call keeps to: after an accepted setup no record is unsound and no table's length wrong; only write changes a pending
+-- word, only commit a committed one.
 use mathlib.Core.Path.{_≡_, refl, sym, ap₂, subst, _∙_}
 use mathlib.Core.Bool.{Bool, true, false, cond, not, _&&_, _||_, true≢false}
 use mathlib.Core.List.{List}
