@@ -31,7 +31,7 @@ idle-tidy objects jobs n few unused =
       owner-listed = λ a. absurd (true≢false (sym a));
       idle-clear = λ a. record { no-reads = refl; no-writes = refl; no-mark = refl; no-owner = refl; no-ticket = refl; no-aborts = refl };
       zombie-empty = λ z. absurd (true≢false (sym z));
-      at-most-eight = few;
+      few-listed = few;
       unused-jobs = unused;
       owner-first = λ a. absurd (true≢false (sym a));
     }
@@ -73,7 +73,7 @@ module _ (objects : ℕ) (k : Core) (s : Tidy objects k) (f : Formed-core k) whe
               no-aborts = e .no-aborts;
             };
         zombie-empty = s .zombie-empty;
-        at-most-eight = omega arith;
+        few-listed = omega arith;
         unused-jobs = λ p l u. kept p (λ e. omega arith) ∙ s .unused-jobs p l (omega arith);
         owner-first = λ a p h.
             let o : k .owner < k .count = s .owner-listed a in
@@ -102,7 +102,7 @@ module _ (objects : ℕ) (k : Core) (s : Tidy objects k) (f : Formed-core k) whe
         owner-listed = λ a. rw off (least-listed (k .jobs) (k .count) (omega (arith, some)));
         idle-clear = λ a. absurd (true≢false a);
         zombie-empty = λ z. absurd (true≢false (sym z));
-        at-most-eight = s .at-most-eight;
+        few-listed = s .few-listed;
         unused-jobs = s .unused-jobs;
         owner-first = λ a p. rw off (least-first (k .jobs) (k .count) p);
       }
@@ -121,7 +121,7 @@ module _ (objects : ℕ) (k : Core) (s : Tidy objects k) (f : Formed-core k) whe
         owner-listed = s .owner-listed;
         idle-clear = λ a. absurd (true≢false (sym on ∙ a));
         zombie-empty = empty;
-        at-most-eight = s .at-most-eight;
+        few-listed = s .few-listed;
         unused-jobs = s .unused-jobs;
         owner-first = s .owner-first;
       }
@@ -141,7 +141,7 @@ module _ (objects : ℕ) (k : Core) (s : Tidy objects k) (f : Formed-core k) whe
   sets-formed rs ws hr hw = record { jobs-long = f .jobs-long; reads-fit = hr; writes-fit = hw }
 
   pub over-tidy : Tidy objects (over k)
-  over-tidy = idle-tidy objects (k .jobs) (k .count) (s .at-most-eight) (s .unused-jobs)
+  over-tidy = idle-tidy objects (k .jobs) (k .count) (s .few-listed) (s .unused-jobs)
 
   pub aborted-tidy : k .active ≡ true → Tidy objects (aborted k)
   aborted-tidy on =
@@ -149,7 +149,7 @@ module _ (objects : ℕ) (k : Core) (s : Tidy objects k) (f : Formed-core k) whe
 
   pub finished-tidy : (p : ℕ) → p < k .count → Tidy objects (idle (without (k .jobs) p) (k .count - 1))
   finished-tidy p h =
-      let few : k .count ≤ 8 = s .at-most-eight in
+      let few : k .count ≤ 8 = s .few-listed in
       idle-tidy objects (without (k .jobs) p) (k .count - 1) (omega arith)
       (λ q l u.
       without-unused (k .jobs) p (k .count) h (λ x m. s .unused-jobs x (omega (arith, f .jobs-long))) q (omega (arith, f .jobs-long)) u)
@@ -157,7 +157,7 @@ module _ (objects : ℕ) (k : Core) (s : Tidy objects k) (f : Formed-core k) whe
   pub finished-formed : (p : ℕ) → p < k .count → Formed-core (idle (without (k .jobs) p) (k .count - 1))
   finished-formed p h =
       idle-formed (without (k .jobs) p) (k .count - 1)
-      (without-long (k .jobs) p (omega (arith, f .jobs-long, s .at-most-eight)) ∙ f .jobs-long)
+      (without-long (k .jobs) p (omega (arith, f .jobs-long, s .few-listed)) ∙ f .jobs-long)
 
 -- one card of the machine's joins a set within the cards
 pub added-within : (objects s d : ℕ) → s < 2 ^ 64 → objects ≤ 64 → d < objects → ((e : ℕ) → e < 64 → has s e ≡ true → e < objects)

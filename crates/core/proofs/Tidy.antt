@@ -11,7 +11,7 @@ use Rattle.objset.proofs.Laws.{each-one, one-each}
 use Rattle.core.specs.declared.Core.{Core}
 use Rattle.core.specs.declared.Job.{Job}
 use Rattle.core.specs.Parts.{noJob, jobAt}
-use Rattle.core.specs.Tidy.{_⇒_, setsWithinOn, ownerListedOn, emptySets, clear, idleClearOn, zombieEmptyOn, atMostEightOn, zeroJob, unusedJobsOn, ownerFirstOn, unused, tidy, blankOn}
+use Rattle.core.specs.Tidy.{_⇒_, setsWithinOn, ownerListedOn, emptySets, clear, idleClearOn, zombieEmptyOn, fewJobsOn, zeroJob, unusedJobsOn, ownerFirstOn, unused, tidy, blankOn}
 use Rattle.core.proofs.TestLaws.{same-test, if-true, true-if, both}
 
 -- empty sets, no mark, and owner's place, ticket and setbacks 0
@@ -30,7 +30,7 @@ pub record Tidy (objects : ℕ) (k : Core) : Type 0 where
   pub owner-listed : k .active ≡ true → k .owner < k .count
   pub idle-clear : k .active ≡ false → Clear k
   pub zombie-empty : k .zombie ≡ true → (k .reads ≡ 0) × (k .writes ≡ 0)
-  pub at-most-eight : k .count ≤ 8
+  pub few-listed : k .count ≤ 8
   pub unused-jobs : (p : ℕ) → p < 8 → k .count ≤ p → jobAt k p ≡ noJob
   pub owner-first : k .active ≡ true → (p : ℕ) → p < k .owner → jobAt k (k .owner) .deadline < jobAt k p .deadline
 
@@ -77,7 +77,7 @@ clear-is k s = rw (s .no-reads, s .no-writes, s .no-mark, s .no-owner, s .no-tic
 -- ---- a core that passes every test keeps every rule
 
 pub tidy-core : (objects : ℕ) (k : Core) → setsWithinOn objects k ≡ true → ownerListedOn k ≡ true → idleClearOn k ≡ true → zombieEmptyOn k ≡ true
-    → atMostEightOn k ≡ true → unusedJobsOn k ≡ true → ownerFirstOn k ≡ true → Tidy objects k
+    → fewJobsOn k ≡ true → unusedJobsOn k ≡ true → ownerFirstOn k ≡ true → Tidy objects k
 tidy-core objects k a b e d f g h =
     record {
       reads-within = within (k .reads) objects (sets .0);
@@ -85,7 +85,7 @@ tidy-core objects k a b e d f g h =
       owner-listed = owner;
       idle-clear = λ p. is-clear k (if-true (not (k .active)) _ e (ap not p));
       zombie-empty = λ p. empty-sets k (if-true (k .zombie) (emptySets k) d p);
-      at-most-eight = few;
+      few-listed = few;
       unused-jobs = λ p l u.
           zero-job (jobAt k p) (if-true (leb (k .count) p) (zeroJob (jobAt k p)) (each-one 8 _ g p l) (le-leb (k .count) p u));
       owner-first = λ on p l.
@@ -118,8 +118,8 @@ module _ (objects : ℕ) (k : Core) (t : Tidy objects k) where
   pub zombie-passes : zombieEmptyOn k ≡ true
   zombie-passes = true-if (k .zombie) _ (λ z. rw (t .zombie-empty z .0, t .zombie-empty z .1))
 
-  pub eight-pass : atMostEightOn k ≡ true
-  eight-pass = le-leb (k .count) 8 (t .at-most-eight)
+  pub few-pass : fewJobsOn k ≡ true
+  few-pass = le-leb (k .count) 8 (t .few-listed)
 
   pub unused-pass : unusedJobsOn k ≡ true
   unused-pass =
@@ -180,7 +180,7 @@ blank-tidy objects k = same-test (blankOn k) (tidy objects k && unused k) to fro
           owner-listed = λ on. absurd (true≢false (sym on ∙ b .no-transaction));
           idle-clear = λ off. b .cleared;
           zombie-empty = λ z. (b .cleared .no-reads, b .cleared .no-writes);
-          at-most-eight = omega (arith, b .no-count);
+          few-listed = omega (arith, b .no-count);
           unused-jobs = λ p l h. b .no-jobs p l;
           owner-first = λ on. absurd (true≢false (sym on ∙ b .no-transaction));
         } in
@@ -189,7 +189,7 @@ blank-tidy objects k = same-test (blankOn k) (tidy objects k && unused k) to fro
           owner-passes objects k t,
           idle-passes objects k t,
           zombie-passes objects k t,
-          eight-pass objects k t,
+          few-pass objects k t,
           unused-pass objects k t,
           first-passes objects k t,
           b .no-count,
@@ -201,7 +201,7 @@ blank-tidy objects k = same-test (blankOn k) (tidy objects k && unused k) to fro
         let u = both (tidy objects k) (unused k) e in
         let f = both _ (ownerFirstOn k) (u .0) in
         let j = both _ (unusedJobsOn k) (f .0) in
-        let a = both _ (atMostEightOn k) (j .0) in
+        let a = both _ (fewJobsOn k) (j .0) in
         let z = both _ (zombieEmptyOn k) (a .0) in
         let i = both (setsWithinOn objects k && ownerListedOn k) (idleClearOn k) (z .0) in
         let n = both (eqb (k .count) 0) (not (k .active)) (u .1) in

@@ -36,8 +36,8 @@ abbrev pub zombieEmptyOn : Core → Bool
 zombieEmptyOn k = k .zombie ⇒ emptySets k
 
 -- a list has at most 8 jobs
-abbrev pub atMostEightOn : Core → Bool
-atMostEightOn k = leb (k .count) mostJobs
+abbrev pub fewJobsOn : Core → Bool
+fewJobsOn k = leb (k .count) mostJobs
 
 abbrev pub zeroJob : Job → Bool
 zeroJob j = eqb (j .number) 0 && eqb (j .deadline) 0
@@ -61,7 +61,7 @@ unused k = eqb (k .count) 0 && not (k .active)
 -- the rules that a core of a machine with that many cards keeps by itself
 abbrev pub tidy : ℕ → Core → Bool
 tidy objects k =
-    setsWithinOn objects k && ownerListedOn k && idleClearOn k && zombieEmptyOn k && atMostEightOn k && unusedJobsOn k && ownerFirstOn k
+    setsWithinOn objects k && ownerListedOn k && idleClearOn k && zombieEmptyOn k && fewJobsOn k && unusedJobsOn k && ownerFirstOn k
 
 -- every field is 0
 abbrev pub blankOn : Core → Bool

@@ -12,12 +12,12 @@ use Rattle.core.specs.declared.Core.{Core}
 use Rattle.core.specs.declared.Job.{Job}
 use Rattle.core.specs.Parts.{noJob, idle, blankCore}
 use Rattle.machine.specs.Record.{tally}
-use Rattle.machine.specs.Sound.{inRange, setsWithin, ownerListed, idleClear, zombieEmpty, atMostEight, unusedJobs, lackedCores, lackedObjects, ownerFirst, ticketsDiffer, ticketsGiven, ticketsCounted, versionsBounded, smallerTickets, abortsBounded, sound}
+use Rattle.machine.specs.Sound.{inRange, setsWithin, ownerListed, idleClear, zombieEmpty, fewJobs, unusedJobs, lackedCores, lackedObjects, ownerFirst, ticketsDiffer, ticketsGiven, ticketsCounted, versionsBounded, smallerTickets, abortsBounded, sound}
 
 -- the tests of the fifteen rules, in the order of `sound`
 unfoldable pub tests : Machine → List Bool
 tests m =
-    inRange m ∷ setsWithin m ∷ ownerListed m ∷ idleClear m ∷ zombieEmpty m ∷ atMostEight m ∷ unusedJobs m ∷ lackedCores m
+    inRange m ∷ setsWithin m ∷ ownerListed m ∷ idleClear m ∷ zombieEmpty m ∷ fewJobs m ∷ unusedJobs m ∷ lackedCores m
     ∷ lackedObjects m ∷ ownerFirst m ∷ ticketsDiffer m ∷ ticketsGiven m ∷ ticketsCounted m ∷ versionsBounded m ∷ abortsBounded m ∷ []
 
 unfoldable pub allPass : List Bool → Bool
@@ -186,5 +186,5 @@ table =
     ∷ []
 
 pub each-rule-alone : allHold 0 table ≡ true
-unfolding tests allPass onlyFails holds allHold listed unnumbered job busy left machine givenUp row oneCore noTicket fresh second table inRange setsWithin ownerListed idleClear zombieEmpty atMostEight unusedJobs lackedCores lackedObjects ownerFirst ticketsDiffer ticketsGiven ticketsCounted versionsBounded smallerTickets abortsBounded sound tally has each below
+unfolding tests allPass onlyFails holds allHold listed unnumbered job busy left machine givenUp row oneCore noTicket fresh second table inRange setsWithin ownerListed idleClear zombieEmpty fewJobs unusedJobs lackedCores lackedObjects ownerFirst ticketsDiffer ticketsGiven ticketsCounted versionsBounded smallerTickets abortsBounded sound tally has each below
 each-rule-alone = refl

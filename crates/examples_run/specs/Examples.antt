@@ -10,7 +10,7 @@ use Rattle.core.specs.declared.Answer.{Answer}
 use Rattle.core.specs.declared.Answer.the-variants.{Ready, Running, Queued, Begun, Value, Written, Waits, Committed, SetBack, Ended, Finished, Refused}
 use Rattle.machine.specs.Record.{tally}
 use Rattle.core.specs.Parts.{least, running}
-use Rattle.machine.specs.Sound.{inRange, setsWithin, ownerListed, idleClear, zombieEmpty, atMostEight, unusedJobs, lackedCores, lackedObjects, ownerFirst, ticketsDiffer, ticketsGiven, ticketsCounted, versionsBounded, smallerTickets, abortsBounded, sound}
+use Rattle.machine.specs.Sound.{inRange, setsWithin, ownerListed, idleClear, zombieEmpty, fewJobs, unusedJobs, lackedCores, lackedObjects, ownerFirst, ticketsDiffer, ticketsGiven, ticketsCounted, versionsBounded, smallerTickets, abortsBounded, sound}
 use Rattle.machine.specs.Answers.{kind, values, coreNamed, sameList, sameAnswer}
 use Rattle.machine.specs.Rule.{World, Result, unless, unlessLent, setup, released, release, begun, begin, setBackTold, accessRefusal, valueRead, valued, read, written, write, contender, blocked, cleared, changed, through, commitRefusal, commit, ended, giveUp, finished, finish, rule, Call, Release, Begin, Read, Write, Commit, GiveUp, Finish}
 use Rattle.core.specs.Calls.{first}
@@ -190,5 +190,5 @@ examples =
     ++ (exampleD ∷ exampleE ∷ exampleF ∷ exampleG ∷ exampleH ∷ exampleI ∷ exampleJ ∷ exampleK ∷ [])
 
 pub all-hold : allHold examples ≡ true
-unfolding examples exampleA refusedSetup acceptedSetup exampleB exampleC exampleD exampleE exampleF bothBegun exampleG exampleH exampleI exampleJ exampleK allHold holds follows rule setup first unless unlessLent released release begun begin setBackTold accessRefusal valueRead valued read written write contender blocked struckBy cleared changed through commitRefusal commit ended giveUp finished finish kind values coreNamed sameList sameAnswer tally least running inRange setsWithin ownerListed idleClear zombieEmpty atMostEight unusedJobs lackedCores lackedObjects ownerFirst ticketsDiffer ticketsGiven ticketsCounted versionsBounded smallerTickets abortsBounded sound has collect some each none added joined meeting below
+unfolding examples exampleA refusedSetup acceptedSetup exampleB exampleC exampleD exampleE exampleF bothBegun exampleG exampleH exampleI exampleJ exampleK allHold holds follows rule setup first unless unlessLent released release begun begin setBackTold accessRefusal valueRead valued read written write contender blocked struckBy cleared changed through commitRefusal commit ended giveUp finished finish kind values coreNamed sameList sameAnswer tally least running inRange setsWithin ownerListed idleClear zombieEmpty fewJobs unusedJobs lackedCores lackedObjects ownerFirst ticketsDiffer ticketsGiven ticketsCounted versionsBounded smallerTickets abortsBounded sound has collect some each none added joined meeting below
 all-hold = refl

@@ -22,7 +22,7 @@ module _ (m : Machine) (s : sound m ≡ true) where
   object-place d h = omega (arith, stands .few-objects)
 
   pub few-jobs : (c : ℕ) → c < m .cores → coreAt m c .count ≤ 8
-  few-jobs c h = stands .tidy c (core-place c h) .at-most-eight
+  few-jobs c h = stands .tidy c (core-place c h) .few-listed
 
   -- while a transaction is in progress, fewer have ended than tickets were given
   pub one-open : (c : ℕ) → c < m .cores → coreAt m c .active ≡ true → m .commits + m .«give_ups» < m .tickets

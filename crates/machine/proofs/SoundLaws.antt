@@ -11,7 +11,7 @@ use Rattle.objset.proofs.Laws.{one-each}
 use Rattle.machine.specs.declared.Machine.{Machine}
 use Rattle.machine.specs.Record.{coreAt, activeAt, tally}
 use Rattle.core.specs.Tidy.{_⇒_, tidy, blankOn}
-use Rattle.machine.specs.Sound.{inRange, setsWithin, ownerListed, idleClear, zombieEmpty, atMostEight, unusedJobs, ownerFirst}
+use Rattle.machine.specs.Sound.{inRange, setsWithin, ownerListed, idleClear, zombieEmpty, fewJobs, unusedJobs, ownerFirst}
 use Rattle.machine.specs.Sound.{lackedAt, lackedCores, versionAt, versionsBounded, lackedObjectAt, lackedObjects}
 use Rattle.machine.specs.Sound.{differAt, ticketsDiffer, givenAt, ticketsGiven, smallerAt, smallerTickets, abortsAt, abortsBounded}
 use Rattle.machine.specs.Sound.{ticketsCounted, sound, cardsSound, coresTidy, turnsKept, coresSound, turnKept}
@@ -26,7 +26,7 @@ abbrev pub tidyAt : Machine → ℕ → Bool
 tidyAt m c = tidy (m .objects) (coreAt m c) && lackedAt m c
 
 pub cores-tidy : (m : Machine) → each 16 (tidyAt m) ≡ coresTidy m
-unfolding setsWithin ownerListed idleClear zombieEmpty atMostEight unusedJobs ownerFirst lackedCores
+unfolding setsWithin ownerListed idleClear zombieEmpty fewJobs unusedJobs ownerFirst lackedCores
 cores-tidy m =
     gather 16 _ _ _
     (gather 16 _ _ _ (gather 16 _ _ _ (gather 16 _ _ _ (gather 16 _ _ _ (gather 16 _ _ _ (gather 16 _ _ _ refl))))))
@@ -117,7 +117,7 @@ sound-parts m = same-test _ (sound m) to from
         let c7 = both _ (lackedCores m) (c .0) in
         let c6 = both _ (ownerFirst m) (c7 .0) in
         let c5 = both _ (unusedJobs m) (c6 .0) in
-        let c4 = both _ (atMostEight m) (c5 .0) in
+        let c4 = both _ (fewJobs m) (c5 .0) in
         let c3 = both _ (zombieEmpty m) (c4 .0) in
         let c2 = both _ (idleClear m) (c3 .0) in
         let c1 = both (setsWithin m) (ownerListed m) (c2 .0) in
@@ -128,7 +128,7 @@ sound-parts m = same-test _ (sound m) to from
           passed-owner-listed = c1 .1;
           passed-idle-clear = c2 .1;
           passed-zombie-empty = c3 .1;
-          passed-at-most-eight = c4 .1;
+          passed-few-listed = c4 .1;
           passed-unused-jobs = c5 .1;
           passed-lacked-cores = c7 .1;
           passed-lacked-objects = v1 .1;
@@ -149,7 +149,7 @@ sound-parts m = same-test _ (sound m) to from
           p .passed-owner-listed,
           p .passed-idle-clear,
           p .passed-zombie-empty,
-          p .passed-at-most-eight,
+          p .passed-few-listed,
           p .passed-unused-jobs,
           p .passed-owner-first,
           p .passed-lacked-cores,

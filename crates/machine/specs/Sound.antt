@@ -8,7 +8,7 @@ use Rattle.objset.specs.Objset.{mostObjects, each}
 use Rattle.machine.specs.declared.Machine.{Machine}
 use Rattle.core.specs.declared.Core.{Core}
 use Rattle.machine.specs.Record.{coreAt, activeAt, tally, sizesInRange}
-use Rattle.core.specs.Tidy.{_⇒_, setsWithinOn, ownerListedOn, idleClearOn, zombieEmptyOn, atMostEightOn, unusedJobsOn, ownerFirstOn, unused}
+use Rattle.core.specs.Tidy.{_⇒_, setsWithinOn, ownerListedOn, idleClearOn, zombieEmptyOn, fewJobsOn, unusedJobsOn, ownerFirstOn, unused}
 use Rattle.core.specs.Parts.{mostCores}
 
 -- a rule that each of the sixteen places for cores keeps
@@ -36,8 +36,8 @@ unfoldable pub zombieEmpty : Machine → Bool
 zombieEmpty = eachCore zombieEmptyOn
 
 -- a list has at most 8 jobs
-unfoldable pub atMostEight : Machine → Bool
-atMostEight = eachCore atMostEightOn
+unfoldable pub fewJobs : Machine → Bool
+fewJobs = eachCore fewJobsOn
 
 -- unused job places hold zeros
 unfoldable pub unusedJobs : Machine → Bool
@@ -110,7 +110,7 @@ abortsBounded m = each mostCores (abortsAt m)
 -- any other record is unsound
 unfoldable pub sound : Machine → Bool
 sound m =
-    inRange m && setsWithin m && ownerListed m && idleClear m && zombieEmpty m && atMostEight m && unusedJobs m && lackedCores m
+    inRange m && setsWithin m && ownerListed m && idleClear m && zombieEmpty m && fewJobs m && unusedJobs m && lackedCores m
     && lackedObjects m && ownerFirst m && ticketsDiffer m && ticketsGiven m && ticketsCounted m && versionsBounded m && abortsBounded m
 
 -- ---- the rules as they are tested together: of the cards, of the cores by themselves, of the transactions in progress
@@ -120,7 +120,7 @@ cardsSound m = versionsBounded m && lackedObjects m
 
 abbrev pub coresTidy : Machine → Bool
 coresTidy m =
-    setsWithin m && ownerListed m && idleClear m && zombieEmpty m && atMostEight m && unusedJobs m && ownerFirst m && lackedCores m
+    setsWithin m && ownerListed m && idleClear m && zombieEmpty m && fewJobs m && unusedJobs m && ownerFirst m && lackedCores m
 
 abbrev pub turnsKept : Machine → Bool
 turnsKept m = ticketsDiffer m && ticketsGiven m && abortsBounded m

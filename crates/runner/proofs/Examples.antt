@@ -9,7 +9,7 @@ use Rattle.decimal.specs.Spelling.{spelling, spellingIn}
 use Rattle.decimal.specs.Reading.{allDigits, noLeadingZero, valueAfter, isNumber, reads}
 use Rattle.machine.specs.Record.{tally}
 use Rattle.core.specs.Parts.{least, running}
-use Rattle.machine.specs.Sound.{inRange, setsWithin, ownerListed, idleClear, zombieEmpty, atMostEight, unusedJobs, lackedCores, lackedObjects, ownerFirst, ticketsDiffer, ticketsGiven, ticketsCounted, versionsBounded, smallerTickets, abortsBounded, sound}
+use Rattle.machine.specs.Sound.{inRange, setsWithin, ownerListed, idleClear, zombieEmpty, fewJobs, unusedJobs, lackedCores, lackedObjects, ownerFirst, ticketsDiffer, ticketsGiven, ticketsCounted, versionsBounded, smallerTickets, abortsBounded, sound}
 use Rattle.core.specs.Calls.{first}
 use Rattle.machine.specs.Rule.{unless, unlessLent, setup, released, release, begun, begin, setBackTold, accessRefusal, valueRead, valued, read, written, write, contender, blocked, leastOf, cleared, changed, through, commitRefusal, commit, ended, giveUp, finished, finish, rule}
 use Rattle.core.specs.Life.{struckBy}
@@ -93,5 +93,5 @@ table =
     ∷ []
 
 each-listing : map (λ row. listing (row .0)) table ≡ map (λ row. row .1) table
-unfolding table byLine whole caseA caseK caseL ends bytes flatten listing body named listed answered met request setUp lines Pieces.ended pieces onto same names ordered place spells meant fields verb field numbered number unused spelt reads isNumber allDigits noLeadingZero valueAfter spelling spellingIn line said rule setup first unless unlessLent released release begun begin setBackTold accessRefusal valueRead valued read written write contender blocked leastOf struckBy cleared changed through commitRefusal commit ended giveUp finished finish tally least running inRange setsWithin ownerListed idleClear zombieEmpty atMostEight unusedJobs lackedCores lackedObjects ownerFirst ticketsDiffer ticketsGiven ticketsCounted versionsBounded smallerTickets abortsBounded sound has collect some each none added joined meeting below
+unfolding table byLine whole caseA caseK caseL ends bytes flatten listing body named listed answered met request setUp lines Pieces.ended pieces onto same names ordered place spells meant fields verb field numbered number unused spelt reads isNumber allDigits noLeadingZero valueAfter spelling spellingIn line said rule setup first unless unlessLent released release begun begin setBackTold accessRefusal valueRead valued read written write contender blocked leastOf struckBy cleared changed through commitRefusal commit ended giveUp finished finish tally least running inRange setsWithin ownerListed idleClear zombieEmpty fewJobs unusedJobs lackedCores lackedObjects ownerFirst ticketsDiffer ticketsGiven ticketsCounted versionsBounded smallerTickets abortsBounded sound has collect some each none added joined meeting below
 each-listing = refl

@@ -7,7 +7,7 @@ use borrow.Author.Tests.{ltb-true, leb-true}
 use Rattle.core.proofs.TestLaws.{both}
 use Rattle.machine.specs.declared.Machine.{Machine}
 use Rattle.machine.specs.Record.{sizesInRange}
-use Rattle.machine.specs.Sound.{inRange, setsWithin, ownerListed, idleClear, zombieEmpty, atMostEight, unusedJobs, lackedCores, lackedObjects, ownerFirst, ticketsDiffer, ticketsGiven, ticketsCounted, versionsBounded, abortsBounded, sound}
+use Rattle.machine.specs.Sound.{inRange, setsWithin, ownerListed, idleClear, zombieEmpty, fewJobs, unusedJobs, lackedCores, lackedObjects, ownerFirst, ticketsDiffer, ticketsGiven, ticketsCounted, versionsBounded, abortsBounded, sound}
 
 -- cores and cards that are in range
 pub in-range : (cores objects : ℕ) → sizesInRange cores objects ≡ true → (0 < cores) × (cores ≤ 16) × (0 < objects) × (objects ≤ 64)
@@ -23,7 +23,7 @@ pub record Passed (m : Machine) : Type 0 where
   pub passed-owner-listed : ownerListed m ≡ true
   pub passed-idle-clear : idleClear m ≡ true
   pub passed-zombie-empty : zombieEmpty m ≡ true
-  pub passed-at-most-eight : atMostEight m ≡ true
+  pub passed-few-listed : fewJobs m ≡ true
   pub passed-unused-jobs : unusedJobs m ≡ true
   pub passed-lacked-cores : lackedCores m ≡ true
   pub passed-lacked-objects : lackedObjects m ≡ true
@@ -46,7 +46,7 @@ passed m s =
     let p8 = both _ (lackedObjects m) (p9 .0) in
     let p7 = both _ (lackedCores m) (p8 .0) in
     let p6 = both _ (unusedJobs m) (p7 .0) in
-    let p5 = both _ (atMostEight m) (p6 .0) in
+    let p5 = both _ (fewJobs m) (p6 .0) in
     let p4 = both _ (zombieEmpty m) (p5 .0) in
     let p3 = both _ (idleClear m) (p4 .0) in
     let p2 = both _ (ownerListed m) (p3 .0) in
@@ -57,7 +57,7 @@ passed m s =
       passed-owner-listed = p2 .1;
       passed-idle-clear = p3 .1;
       passed-zombie-empty = p4 .1;
-      passed-at-most-eight = p5 .1;
+      passed-few-listed = p5 .1;
       passed-unused-jobs = p6 .1;
       passed-lacked-cores = p7 .1;
       passed-lacked-objects = p8 .1;
@@ -78,7 +78,7 @@ passed-all m p =
       p .passed-owner-listed,
       p .passed-idle-clear,
       p .passed-zombie-empty,
-      p .passed-at-most-eight,
+      p .passed-few-listed,
       p .passed-unused-jobs,
       p .passed-lacked-cores,
       p .passed-lacked-objects,

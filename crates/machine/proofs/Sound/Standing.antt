@@ -10,10 +10,10 @@ use borrow.Author.Tests.{ltb-true, ltb-false, leb-true, eqb-true, eqb-false, lt-
 use Rattle.objset.proofs.Laws.{each-one, one-each}
 use Rattle.core.specs.declared.Core.{Core}
 use Rattle.core.proofs.TestLaws.{if-true, true-if, both}
-use Rattle.core.proofs.Tidy.{Tidy, tidy-core, sets-pass, owner-passes, idle-passes, zombie-passes, eight-pass, unused-pass, first-passes}
+use Rattle.core.proofs.Tidy.{Tidy, tidy-core, sets-pass, owner-passes, idle-passes, zombie-passes, few-pass, unused-pass, first-passes}
 use Rattle.machine.specs.declared.Machine.{Machine}
 use Rattle.machine.specs.Record.{coreAt}
-use Rattle.machine.specs.Sound.{inRange, setsWithin, ownerListed, idleClear, zombieEmpty, atMostEight, unusedJobs, lackedCores, lackedObjects, ownerFirst, ticketsDiffer, ticketsGiven, ticketsCounted, versionsBounded, smallerTickets, abortsBounded, sound}
+use Rattle.machine.specs.Sound.{inRange, setsWithin, ownerListed, idleClear, zombieEmpty, fewJobs, unusedJobs, lackedCores, lackedObjects, ownerFirst, ticketsDiffer, ticketsGiven, ticketsCounted, versionsBounded, smallerTickets, abortsBounded, sound}
 use Rattle.machine.proofs.Sound.Turns.{Turns}
 use Rattle.machine.proofs.Sound.Passed.{in-range, Passed, passed, passed-all}
 
@@ -37,10 +37,10 @@ pub record Standing (m : Machine) : Type 0 where
 -- ---- soundness gives every rule
 
 standing-core : (m : Machine) → Passed m → (c : ℕ) → c < 16 → Tidy (m .objects) (coreAt m c)
-unfolding setsWithin ownerListed idleClear zombieEmpty atMostEight unusedJobs ownerFirst
+unfolding setsWithin ownerListed idleClear zombieEmpty fewJobs unusedJobs ownerFirst
 standing-core m s c l =
     tidy-core (m .objects) (coreAt m c) (each-one 16 _ (s .passed-sets-within) c l) (each-one 16 _ (s .passed-owner-listed) c l)
-    (each-one 16 _ (s .passed-idle-clear) c l) (each-one 16 _ (s .passed-zombie-empty) c l) (each-one 16 _ (s .passed-at-most-eight) c l)
+    (each-one 16 _ (s .passed-idle-clear) c l) (each-one 16 _ (s .passed-zombie-empty) c l) (each-one 16 _ (s .passed-few-listed) c l)
     (each-one 16 _ (s .passed-unused-jobs) c l) (each-one 16 _ (s .passed-owner-first) c l)
 
 lacked-core : (m : Machine) → Passed m → (c : ℕ) → c < 16 → m .cores ≤ c
@@ -101,7 +101,7 @@ standing {m} sound-m =
 -- ---- the rules together give soundness
 
 pub is-sound : {m : Machine} → Standing m → sound m ≡ true
-unfolding inRange setsWithin ownerListed idleClear zombieEmpty atMostEight unusedJobs lackedCores lackedObjects ownerFirst ticketsDiffer ticketsGiven ticketsCounted versionsBounded smallerTickets abortsBounded
+unfolding inRange setsWithin ownerListed idleClear zombieEmpty fewJobs unusedJobs lackedCores lackedObjects ownerFirst ticketsDiffer ticketsGiven ticketsCounted versionsBounded smallerTickets abortsBounded
 is-sound {m} s =
     passed-all m
     (record {
@@ -116,7 +116,7 @@ is-sound {m} s =
       passed-owner-listed = one-each 16 _ (λ c l. owner-passes _ _ (s .tidy c l));
       passed-idle-clear = one-each 16 _ (λ c l. idle-passes _ _ (s .tidy c l));
       passed-zombie-empty = one-each 16 _ (λ c l. zombie-passes _ _ (s .tidy c l));
-      passed-at-most-eight = one-each 16 _ (λ c l. eight-pass _ _ (s .tidy c l));
+      passed-few-listed = one-each 16 _ (λ c l. few-pass _ _ (s .tidy c l));
       passed-unused-jobs = one-each 16 _ (λ c l. unused-pass _ _ (s .tidy c l));
       passed-lacked-cores =
           one-each 16 _
