@@ -1,23 +1,19 @@
 -- Numbers at the edges of the rule, each by computation.
--- Assumes nothing.
 use mathlib.Core.Path.{_≡_, refl}
-use mathlib.Core.List.{[], _∷_}
 use Rattle.decimal.specs.declared.Number.the-variants.{Value, Malformed}
+use Rattle.decimal.specs.Bytes.{ascii}
 use Rattle.decimal.specs.Spelling.{spelling, spellingIn}
-use Rattle.decimal.specs.Reading.{allDigits, noLeadingZero, valueAfter, isNumber, reads}
+use Rattle.decimal.specs.Reading.{allDigits, noLeadingZero, valueAfter, isNumber, readsAs}
 
--- 0, 10 and 4294967295
-spelled : (spelling 0 ≡ 48 ∷ []) × (spelling 10 ≡ 49 ∷ 48 ∷ []) × (spelling 4294967295 ≡ 52 ∷ 50 ∷ 57 ∷ 52 ∷ 57 ∷ 54 ∷ 55 ∷ 50 ∷ 57 ∷ 53 ∷ [])
+spelled : (spelling 0 ≡ ascii "0") × (spelling 10 ≡ ascii "10") × (spelling 4294967295 ≡ ascii "4294967295")
 unfolding spelling spellingIn
 spelled = (refl, refl, refl)
 
--- `0` and `4294967295`
-numbers : (reads (48 ∷ []) ≡ Value 0) × (reads (52 ∷ 50 ∷ 57 ∷ 52 ∷ 57 ∷ 54 ∷ 55 ∷ 50 ∷ 57 ∷ 53 ∷ []) ≡ Value 4294967295)
-unfolding reads isNumber allDigits noLeadingZero valueAfter
+numbers : (readsAs (ascii "0") ≡ Value 0) × (readsAs (ascii "4294967295") ≡ Value 4294967295)
+unfolding readsAs isNumber allDigits noLeadingZero valueAfter
 numbers = (refl, refl)
 
--- an empty field, `00`, `01`, `1:` and `4294967296`
-malformed : (reads [] ≡ Malformed) × (reads (48 ∷ 48 ∷ []) ≡ Malformed) × (reads (48 ∷ 49 ∷ []) ≡ Malformed) × (reads (49 ∷ 58 ∷ []) ≡ Malformed)
-    × (reads (52 ∷ 50 ∷ 57 ∷ 52 ∷ 57 ∷ 54 ∷ 55 ∷ 50 ∷ 57 ∷ 54 ∷ []) ≡ Malformed)
-unfolding reads isNumber allDigits noLeadingZero valueAfter
+malformed : (readsAs (ascii "") ≡ Malformed) × (readsAs (ascii "00") ≡ Malformed) × (readsAs (ascii "01") ≡ Malformed) × (readsAs (ascii "1:") ≡ Malformed)
+    × (readsAs (ascii "4294967296") ≡ Malformed)
+unfolding readsAs isNumber allDigits noLeadingZero valueAfter
 malformed = (refl, refl, refl, refl, refl)

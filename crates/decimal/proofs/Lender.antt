@@ -2,7 +2,7 @@
 --     filled           whatever a slice's name says of its places, each holds a value
 --     kept-back        the lifetime is over: the slice's memory is back, with as many bytes, and those from place k on are as they were lent
 -- Assumes `Given`.
-use mathlib.Core.Path.{_≡_, refl, sym, _∙_, ap}
+use mathlib.Core.Path.{refl, sym, _∙_, ap}
 use mathlib.Core.Bool.{Bool, true, false}
 use mathlib.Core.List.{List, [], _∷_, _++_}
 use Prim.Native.Nat.{ℕ, zero, suc, _+_}
@@ -13,7 +13,7 @@ use base.Logic.{SProp, ent, sep, ex}
 use base.Fml.{Lft, GName, Fml, ftrue, fsep, feq, fres, fdead, flent}
 use prog.Wp.{Heap}
 use ghost.Atoms.{Atoms, sem}
-use types.Kit.{Given, ‵, raw, _⊛_, some, _$_, _∵_, !, qed, move, keep, use1, use2, rewrite, split, pick, fsplit, fjoin, fpick, feqL, feqI, updating, now as at-once, show, done}
+use types.Kit.{Given, ‵, _⊛_, some, _$_, _∵_, !, qed, move, keep, use1, use2, rewrite, split, pick, fsplit, fjoin, fpick, feqL, feqI, updating, now as at-once, show, done}
 use types.Tokens.{res-agree, lent-back}
 use types.SemTy.{SemTy, cells, Body}
 use types.Hole.{Holey, here, heres-out}

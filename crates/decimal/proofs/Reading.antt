@@ -1,5 +1,4 @@
 -- What decides how a field reads: three tests, its digits one by one, and the number that they come to.
--- Assumes nothing.
 use mathlib.Core.Path.{_≡_, refl, sym, _∙_, ap}
 use mathlib.Core.Bool.{Bool, true, false, cond, _&&_, and-eq-true-iff}
 use mathlib.Core.List.{List, [], _∷_}
@@ -11,7 +10,7 @@ use lib.ListN.{length, getD, drop, drop-of-length-le}
 use lib.Seq.{drop-cons}
 use borrow.Author.Tests.{le-leb, lt-leb, leb-true}
 use Rattle.decimal.specs.declared.Number.the-variants.{Value, Malformed}
-use Rattle.decimal.specs.Reading.{largest, allDigits, noLeadingZero, valueAfter, isNumber, reads}
+use Rattle.decimal.specs.Reading.{largest, allDigits, noLeadingZero, valueAfter, isNumber, readsAs}
 
 -- ---- digits
 
@@ -44,20 +43,20 @@ and-false : (t : Bool) → (t && false) ≡ false
 and-false true = refl
 and-false false = refl
 
-no-digits : (field : List ℕ) → allDigits field ≡ false → reads field ≡ Malformed
-unfolding reads isNumber
+no-digits : (field : List ℕ) → allDigits field ≡ false → readsAs field ≡ Malformed
+unfolding readsAs isNumber
 no-digits field e = rw e
 
-pub no-front : (field : List ℕ) → noLeadingZero field ≡ false → reads field ≡ Malformed
-unfolding reads isNumber
+pub no-front : (field : List ℕ) → noLeadingZero field ≡ false → readsAs field ≡ Malformed
+unfolding readsAs isNumber
 no-front field e = rw (e, and-false)
 
-too-large : (field : List ℕ) → largest < valueAfter 0 field → reads field ≡ Malformed
-unfolding reads isNumber
+too-large : (field : List ℕ) → largest < valueAfter 0 field → readsAs field ≡ Malformed
+unfolding readsAs isNumber
 too-large field h = rw (lt-leb (valueAfter 0 field) largest h, and-false)
 
-pub a-number : (field : List ℕ) (n : ℕ) → allDigits field ≡ true → noLeadingZero field ≡ true → valueAfter 0 field ≡ n → n ≤ largest → reads field ≡ Value n
-unfolding reads isNumber
+pub a-number : (field : List ℕ) (n : ℕ) → allDigits field ≡ true → noLeadingZero field ≡ true → valueAfter 0 field ≡ n → n ≤ largest → readsAs field ≡ Value n
+unfolding readsAs isNumber
 a-number field n d f v h = rw (d, f, v, le-leb n largest h)
 
 -- what a field that reads as n is
@@ -71,8 +70,8 @@ value-of : (t : Bool) (x n : ℕ) → cond t (Value x) Malformed ≡ Value n →
 value-of true x n e = (refl, cc)
 value-of false x n e = let z : _≡_ {A = ℕ} 0 1 = cc in absurd (omega arith)
 
-pub reads-as : (field : List ℕ) (n : ℕ) → reads field ≡ Value n → Reads field n
-unfolding reads isNumber
+pub reads-as : (field : List ℕ) (n : ℕ) → readsAs field ≡ Value n → Reads field n
+unfolding readsAs isNumber
 reads-as field n e =
     let v = value-of (isNumber field) (valueAfter 0 field) n e in
     let k = and-eq-true-iff (allDigits field && noLeadingZero field) (leb (valueAfter 0 field) largest) .0 (v .0) in
@@ -96,15 +95,15 @@ module _ (field : List ℕ) (n i : ℕ) (so-far : ReadTo field n i) (h : i < len
   unfolding valueAfter
   value-rest = sym (so-far .value) ∙ ap (valueAfter n) rest
 
-  pub below-digits : getD field i 0 < 48 → reads field ≡ Malformed
+  pub below-digits : getD field i 0 < 48 → readsAs field ≡ Malformed
   unfolding allDigits
   below-digits l = no-digits field (all-rest ∙ rw (lt-leb 48 (getD field i 0) l))
 
-  pub above-digits : 57 < getD field i 0 → reads field ≡ Malformed
+  pub above-digits : 57 < getD field i 0 → readsAs field ≡ Malformed
   unfolding allDigits
   above-digits l = no-digits field (all-rest ∙ rw (lt-leb (getD field i 0) 57 l, and-false))
 
-  pub past-largest : largest < n * 10 + (getD field i 0 - 48) → reads field ≡ Malformed
+  pub past-largest : largest < n * 10 + (getD field i 0 - 48) → readsAs field ≡ Malformed
   past-largest l =
       let m : ℕ = n * 10 + (getD field i 0 - 48) in
       too-large field (omega (arith, value-rest, value-grows m (drop (i + 1) field)))
@@ -115,7 +114,7 @@ module _ (field : List ℕ) (n i : ℕ) (so-far : ReadTo field n i) (h : i < len
     value = sym value-rest;
   }
 
-pub read-whole : (field : List ℕ) (n i : ℕ) → ReadTo field n i → length field ≤ i → noLeadingZero field ≡ true → n ≤ largest → reads field ≡ Value n
+pub read-whole : (field : List ℕ) (n i : ℕ) → ReadTo field n i → length field ≤ i → noLeadingZero field ≡ true → n ≤ largest → readsAs field ≡ Value n
 unfolding allDigits valueAfter
 read-whole field n i so-far end front small =
     let none = drop-of-length-le field end in

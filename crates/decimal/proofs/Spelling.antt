@@ -1,5 +1,4 @@
 -- What is known of a number's spelling: its digits one by one, what they stand for, and that no zero leads them.
--- Assumes nothing.
 use mathlib.Core.Path.{_≡_, refl, sym, ap, _∙_}
 use mathlib.Core.Logic.{dite}
 use mathlib.Core.Bool.{true}

@@ -1,6 +1,5 @@
 -- What is known of a lent slice once its first part has gone into a result. A slice's last value is known under its ghost name; each
 -- place of it holds a byte, or has gone to another reference (`denote.Slice`).
--- Assumes nothing.
 use Prim.Native.Nat.{ℕ}
 use mathlib.Core.List.{List, _++_}
 use lib.ListN.{length, drop}

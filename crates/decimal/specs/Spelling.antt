@@ -1,14 +1,14 @@
 -- How a number is written in decimal, and what printing it leaves in a scratch.
--- Assumes nothing.
 use Prim.Native.Nat.{ℕ, zero, suc, _+_, _/_, _%_}
 use mathlib.Core.Bool.{cond}
 use mathlib.Core.List.{List, [], _∷_, _++_}
 use lib.ListN.{length, drop}
 use lib.Dec.{ltb}
+use Rattle.decimal.specs.Bytes.{byte}
 
--- the byte of a digit: `0` is 48
+-- the byte of a digit
 abbrev pub glyph : ℕ → ℕ
-glyph d = 48 + d
+glyph d = byte "0" + d
 
 -- the digits of n, the most significant first, with no leading zeros, in at most so many places
 unfoldable pub spellingIn : ℕ → ℕ → List ℕ

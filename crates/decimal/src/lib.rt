@@ -1,14 +1,15 @@
 // Numbers in decimal: ASCII digits with no leading zeros, at most 4,294,967,295.
 //
-// The contracts cite `specs/`: `spelling n` is how n is written, and `reads field` what a field reads
-// as. `proofs/Laws.antt` has what a caller knows of them. The public functions require nothing.
+// The contracts cite `specs/`: `spelling n` is how n is written, and `readsAs field` what a field reads
+// as. `proofs/Laws.antt` has what a caller knows of them. The public functions require nothing; `fill`
+// has a condition.
 ghost use mathlib.Core.Path.{_≡_};
 ghost use Prim.Native.Nat.{_≤_};
 ghost use mathlib.Core.List.{_++_};
 ghost use lib.ListN.{length, drop};
 ghost use denote.Ref.{ptr};
 ghost use Rattle.decimal.specs.Spelling.{spelling, shown, printed};
-ghost use Rattle.decimal.specs.Reading.{noLeadingZero, reads};
+ghost use Rattle.decimal.specs.Reading.{noLeadingZero, readsAs};
 ghost use Rattle.decimal.specs.Scratch.{keepsFrom};
 
 // What a field reads as.
@@ -22,7 +23,7 @@ const LARGEST: u64 = 4_294_967_295;
 
 // Reads a whole field, and answers with the number that it is, or that it is malformed.
 pub fn read(field: &[u8]) -> Number
-    ensures { λ r. ⌜ r ≡ reads (now (field .entry)) ⌝ }
+    ensures { λ r. ⌜ r ≡ readsAs (now (field .entry)) ⌝ }
 {
     if !no_leading_zero(field) {
         return Number::Malformed;
@@ -62,8 +63,8 @@ fn no_leading_zero(field: &[u8]) -> bool
 //
 // The scratch is lent for as long as the part is in use. So `rest` speaks of the scratch's last value:
 // whoever lent it finds, from the part's end on, the bytes that it lent (`proofs/Lender.antt`). That is
-// a resource of the caller's proof and no plain fact: the borrow checker passes over it (`∗ ⊤ₛ`), and a
-// caller that it covers, and that reads its scratch afterwards, calls `put`.
+// a resource of the caller's proof and no plain fact: the borrow checker passes over it (`∗ ⊤ₛ`), so a
+// caller that it covers lends a scratch of its own, and takes the digits from the part.
 pub fn print(n: u32, scratch: &mut [u8]) -> &mut [u8]
     ensures digits { λ r. ⌜ now r ≡ shown n (now (scratch .entry)) ⌝ }
     ensures first { λ r. ⌜ ptr r ≡ ptr (scratch .entry) ⌝ }
@@ -75,7 +76,7 @@ pub fn print(n: u32, scratch: &mut [u8]) -> &mut [u8]
 
 // Puts n's digits over the first bytes of the scratch, and answers how many there are. The bytes
 // after them keep what they held. A scratch under 10 bytes keeps its bytes, and the answer is 0.
-pub fn put(n: u32, scratch: &mut [u8]) -> usize
+fn put(n: u32, scratch: &mut [u8]) -> usize
     ensures count { λ r. ⌜ r ≡ length (shown n (now (scratch .entry))) ⌝ }
     ensures bytes { λ _. ⌜ now (scratch .exit) ≡ printed n (now (scratch .entry)) ⌝ }
 {

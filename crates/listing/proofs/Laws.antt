@@ -1,17 +1,16 @@
--- What a caller knows of a listing: a line has 1 to 32 bytes, what putting a text leaves, and that texts put one after another are put as
+-- What a caller knows of a listing: a line has at most 32 bytes, what putting a text leaves, and that texts put one after another are put as
 -- one.
--- Assumes nothing.
 use mathlib.Core.Path.{_≡_, refl, sym, ap, _∙_}
-use mathlib.Core.List.{List, [], _++_, append-nil, append-assoc}
+use mathlib.Core.List.{List, [], _++_}
 use Prim.Native.Nat.{ℕ, _+_, _-_, _≤_, _<_}
 use native.Mathlib.Omega.{arith}
-use lib.ListN.{length, take, drop, length-append, length-take, length-drop, drop-of-length-le}
-use lib.Seq.{take-all, take-append-seam, drop-append-add, drop-drop}
+use lib.ListN.{length, take, drop, length-append, length-take, length-drop}
+use lib.Seq.{take-append-seam, drop-append-add, drop-drop}
 use borrow.Author.Tests.{lt-ltb, le-ltb, lt-leb, le-leb}
 use Rattle.decimal.proofs.Laws.{spelling-length}
 use Rattle.core.specs.declared.Answer.{Answer}
 use Rattle.core.specs.declared.Answer.the-variants.{Ready, Running, Queued, Begun, Value, Written, Waits, Committed, SetBack, Ended, Finished, Refused}
-use Rattle.listing.specs.Text.{word, value, spaced, said, line, fitting, put, fittingAt, placed}
+use Rattle.listing.specs.Text.{word, valueText, spaced, said, line, fitting, put, fittingAt, placed}
 
 -- ---- the length of a line
 
@@ -32,7 +31,7 @@ word-short (Refused n) = omega arith
 pub spaced-short : (a : Answer) → length (spaced a) ≤ 11
 spaced-short a = rw length-append (omega (arith, word-short a))
 
-pub value-short : (a : Answer) → length (value a) ≤ 10
+pub value-short : (a : Answer) → length (valueText a) ≤ 10
 value-short Ready = omega arith
 value-short Running = omega arith
 value-short Queued = omega arith
@@ -50,10 +49,6 @@ pub line-short : (n : ℕ) (a : Answer) → length (line n a) ≤ 32
 unfolding line said
 line-short n a = simp length-append (omega (arith, spelling-length n, word-short a, value-short a))
 
-pub line-some : (n : ℕ) (a : Answer) → 0 < length (line n a)
-unfolding line
-line-some n a = simp length-append (omega (arith, spelling-length n))
-
 -- ---- putting a text over the first bytes of an output
 
 -- a text, and after it what an output held there
@@ -64,7 +59,7 @@ pub fitting-whole : (text output : List ℕ) → 32 ≤ length output → fittin
 unfolding fitting
 fitting-whole text output h = rw (le-ltb (length output) 32 h)
 
-pub fitting-short : (text output : List ℕ) → length output < 32 → fitting text output ≡ []
+fitting-short : (text output : List ℕ) → length output < 32 → fitting text output ≡ []
 unfolding fitting
 fitting-short text output h = rw (lt-ltb (length output) 32 h)
 
@@ -72,7 +67,7 @@ pub put-whole : (text output : List ℕ) → 32 ≤ length output → put text o
 unfolding put
 put-whole text output h = rw (fitting-whole text output h)
 
-pub put-short : (text output : List ℕ) → length output < 32 → put text output ≡ output
+put-short : (text output : List ℕ) → length output < 32 → put text output ≡ output
 unfolding put
 put-short text output h = rw (fitting-short text output h)
 
@@ -85,7 +80,7 @@ pub fittingAt-whole : (at : ℕ) (text output : List ℕ) → at + length text �
 unfolding fittingAt
 fittingAt-whole at text output h = rw (le-leb (at + length text) (length output) h)
 
-pub fittingAt-short : (at : ℕ) (text output : List ℕ) → length output < at + length text → fittingAt at text output ≡ []
+fittingAt-short : (at : ℕ) (text output : List ℕ) → length output < at + length text → fittingAt at text output ≡ []
 unfolding fittingAt
 fittingAt-short at text output h = rw (lt-leb (at + length text) (length output) h)
 
@@ -93,7 +88,7 @@ pub placed-whole : (at : ℕ) (text output : List ℕ) → at + length text ≤ 
 unfolding placed
 placed-whole at text output h = rw (le-leb (at + length text) (length output) h)
 
-pub placed-short : (at : ℕ) (text output : List ℕ) → length output < at + length text → placed at text output ≡ output
+placed-short : (at : ℕ) (text output : List ℕ) → length output < at + length text → placed at text output ≡ output
 unfolding placed
 placed-short at text output h = rw (lt-leb (at + length text) (length output) h)
 
@@ -102,15 +97,6 @@ placed-length at text output h = rw (placed-whole at text output h, length-appen
 
 pub nothing-placed : (at : ℕ) (text output : List ℕ) → length output < at + length text → (0 ≡ length (fittingAt at text output)) × (output ≡ placed at text output)
 nothing-placed at text output h = (ap length (sym (fittingAt-short at text output h)), sym (placed-short at text output h))
-
--- the part of an output from `at` on, as it is lent: its own bytes, and none after it. Putting a text over the first bytes of the part
--- puts it over those from `at` on
-pub placed-part : (at : ℕ) (text output left : List ℕ) → at + length text ≤ length output → left ≡ over text (take (length output - at) (drop at output))
-    → take at output ++ (left ++ drop (length output - at) (drop at output)) ≡ placed at text output
-placed-part at text output left h e =
-    let rest : length (drop at output) ≤ length output - at = omega (arith, length-drop at output) in
-    let none : drop (length output - at) (drop at output) ≡ [] = drop-of-length-le (drop at output) {i = length output - at} rest in
-    rw (e, none, append-nil, take-all (length output - at) (drop at output) rest, drop-drop, placed-whole at text output h, append-assoc)
 
 over-length : (text output : List ℕ) → length text ≤ length output → length (over text output) ≡ length output
 over-length text output h = rw (length-append, length-drop) (omega arith)

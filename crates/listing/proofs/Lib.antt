@@ -1,3 +1,3 @@
--- The laws that callers cite, and examples. Assumes nothing.
+-- The laws that callers cite, and examples.
 pub mod Laws
 mod Examples

@@ -1,66 +1,66 @@
--- How the lines of a listing are written, and what putting one leaves in the lent output. Assumes nothing.
+-- How the lines of a listing are written, and what putting one leaves in the lent output.
 use Prim.Native.Nat.{ℕ, _+_}
 use mathlib.Core.Bool.{cond}
-use mathlib.Core.List.{List, [], _∷_, _++_}
+use mathlib.Core.List.{List, [], _++_}
 use lib.Dec.{ltb, leb}
 use lib.ListN.{length, take, drop}
+use Rattle.decimal.specs.Bytes.{ascii}
 use Rattle.decimal.specs.Spelling.{spelling}
 use Rattle.core.specs.declared.Answer.{Answer}
 use Rattle.core.specs.declared.Answer.the-variants.{Ready, Running, Queued, Begun, Value, Written, Waits, Committed, SetBack, Ended, Finished, Refused}
 use Rattle.listing.specs.declared.Field.{Field}
 use Rattle.listing.specs.declared.Field.the-variants.{Number, Dash}
 
--- `line answer value`, with its newline
+-- the first line of a listing: what its columns are
 abbrev pub heading : List ℕ
-heading =
-    108 ∷ 105 ∷ 110 ∷ 101 ∷ 32 ∷ 97 ∷ 110 ∷ 115 ∷ 119 ∷ 101 ∷ 114 ∷ 32 ∷ 118 ∷ 97 ∷ 108 ∷ 117 ∷ 101 ∷ 10 ∷ []
+heading = ascii "line answer value\n"
 
--- the answer: ready, running, queued, begun, value, written, waits, committed, setback, ended, finished, refused
+-- the answer
 abbrev pub word : Answer → List ℕ
-word Ready = 114 ∷ 101 ∷ 97 ∷ 100 ∷ 121 ∷ []
-word Running = 114 ∷ 117 ∷ 110 ∷ 110 ∷ 105 ∷ 110 ∷ 103 ∷ []
-word Queued = 113 ∷ 117 ∷ 101 ∷ 117 ∷ 101 ∷ 100 ∷ []
-word (Begun t) = 98 ∷ 101 ∷ 103 ∷ 117 ∷ 110 ∷ []
-word (Value v n) = 118 ∷ 97 ∷ 108 ∷ 117 ∷ 101 ∷ []
-word Written = 119 ∷ 114 ∷ 105 ∷ 116 ∷ 116 ∷ 101 ∷ 110 ∷ []
-word (Waits c) = 119 ∷ 97 ∷ 105 ∷ 116 ∷ 115 ∷ []
-word (Committed n) = 99 ∷ 111 ∷ 109 ∷ 109 ∷ 105 ∷ 116 ∷ 116 ∷ 101 ∷ 100 ∷ []
-word SetBack = 115 ∷ 101 ∷ 116 ∷ 98 ∷ 97 ∷ 99 ∷ 107 ∷ []
-word Ended = 101 ∷ 110 ∷ 100 ∷ 101 ∷ 100 ∷ []
-word (Finished j) = 102 ∷ 105 ∷ 110 ∷ 105 ∷ 115 ∷ 104 ∷ 101 ∷ 100 ∷ []
-word (Refused n) = 114 ∷ 101 ∷ 102 ∷ 117 ∷ 115 ∷ 101 ∷ 100 ∷ []
+word Ready = ascii "ready"
+word Running = ascii "running"
+word Queued = ascii "queued"
+word (Begun t) = ascii "begun"
+word (Value v n) = ascii "value"
+word Written = ascii "written"
+word (Waits c) = ascii "waits"
+word (Committed n) = ascii "committed"
+word SetBack = ascii "setback"
+word Ended = ascii "ended"
+word (Finished j) = ascii "finished"
+word (Refused n) = ascii "refused"
 
--- `-`
+-- no value
 abbrev pub dash : List ℕ
-dash = 45 ∷ []
+dash = ascii "-"
 
--- the value: begin's ticket, read's value, commit's setbacks, finish's job, refusal's number, else `-`
-abbrev pub value : Answer → List ℕ
-value Ready = dash
-value Running = dash
-value Queued = dash
-value (Begun t) = spelling t
-value (Value v n) = spelling v
-value Written = dash
-value (Waits c) = dash
-value (Committed n) = spelling n
-value SetBack = dash
-value Ended = dash
-value (Finished j) = spelling j
-value (Refused n) = spelling n
+-- the text of the value: begin's ticket, read's value, commit's setbacks, finish's job, refusal's number, else `-`
+abbrev pub valueText : Answer → List ℕ
+valueText Ready = dash
+valueText Running = dash
+valueText Queued = dash
+valueText (Begun t) = spelling t
+valueText (Value v n) = spelling v
+valueText Written = dash
+valueText (Waits c) = dash
+valueText (Committed n) = spelling n
+valueText SetBack = dash
+valueText Ended = dash
+valueText (Finished j) = spelling j
+valueText (Refused n) = spelling n
 
 -- the text of a value that the code has picked out
-abbrev pub written : Field → List ℕ
-written (Number n) = spelling n
-written Dash = dash
+abbrev pub fieldText : Field → List ℕ
+fieldText (Number n) = spelling n
+fieldText Dash = dash
 
 -- the answer between two spaces
 abbrev pub spaced : Answer → List ℕ
-spaced a = 32 ∷ word a ++ 32 ∷ []
+spaced a = ascii " " ++ word a ++ ascii " "
 
--- what follows a line's number: the answer and the value, a space (byte 32) before each, and the newline (byte 10)
+-- what follows a line's number: the answer and the value, a space before each, and the newline
 unfoldable pub said : Answer → List ℕ
-said a = 32 ∷ word a ++ 32 ∷ value a ++ 10 ∷ []
+said a = ascii " " ++ word a ++ ascii " " ++ valueText a ++ ascii "\n"
 
 -- the line for line n of the script
 unfoldable pub line : ℕ → Answer → List ℕ

@@ -1,13 +1,14 @@
-// The lines of a listing (document 01, 'Script and listing'): the heading, and one line for each line read. Assumes nothing.
+// The lines of a listing (document 01, 'Script and listing'): the heading, and one line for each line read.
 //
 // The contracts cite `specs/Text.antt`: `line n a` is the line for line n of the script, and `put` what putting a text over the first
-// bytes of an output leaves there. `proofs/Laws.antt` has what a caller knows of them. The public functions require nothing.
+// bytes of an output leaves there. `proofs/Laws.antt` has what a caller knows of them. The public functions require nothing;
+// `put_field` and `put_number` ask that ten bytes are left.
 use core::Answer;
 ghost use mathlib.Core.Path.{_≡_};
 ghost use Prim.Native.Nat.{_+_, _≤_};
 ghost use lib.ListN.{length, take};
 ghost use Rattle.decimal.specs.Spelling.{spelling};
-ghost use Rattle.listing.specs.Text.{heading, spaced, value, written, line, fitting, put, fittingAt, placed};
+ghost use Rattle.listing.specs.Text.{heading, spaced, valueText, fieldText, line, fitting, put, fittingAt, placed};
 
 // An answer's value: a number, or `-`.
 enum Field {
@@ -58,7 +59,7 @@ pub fn put_line(number: u32, answer: Answer, output: &mut [u8]) -> usize
 fn said_of(answer: Answer) -> Said
     ensures count { λ r. ⌜ r .1 ≡ length (spaced answer) ⌝ }
     ensures text { λ r. ⌜ take (r .1) (r .0) ≡ spaced answer ⌝ }
-    ensures field { λ r. ⌜ written (r .2) ≡ value answer ⌝ }
+    ensures field { λ r. ⌜ fieldText (r .2) ≡ valueText answer ⌝ }
 {
     match answer {
         Answer::Ready => Said(*b" ready     ", 7, Field::Dash),
@@ -79,8 +80,8 @@ fn said_of(answer: Answer) -> Said
 // Puts a value over the output's bytes from `at` on, and answers how many bytes that is.
 fn put_field(field: Field, output: &mut [u8], at: usize) -> usize
     requires { ⌜ at + 10 ≤ length (now output) ⌝ }
-    ensures count { λ r. ⌜ r ≡ length (fittingAt at (written field) (now (output .entry))) ⌝ }
-    ensures bytes { λ _. ⌜ now (output .exit) ≡ placed at (written field) (now (output .entry)) ⌝ }
+    ensures count { λ r. ⌜ r ≡ length (fittingAt at (fieldText field) (now (output .entry))) ⌝ }
+    ensures bytes { λ _. ⌜ now (output .exit) ≡ placed at (fieldText field) (now (output .entry)) ⌝ }
 {
     match field {
         Field::Number(n) => put_number(n, output, at),
@@ -88,13 +89,16 @@ fn put_field(field: Field, output: &mut [u8], at: usize) -> usize
     }
 }
 
-// Puts n's digits over the output's bytes from `at` on, and answers how many there are.
+// Puts n's digits over the output's bytes from `at` on, and answers how many there are: they are printed into a scratch, and the part
+// that comes back is copied.
 fn put_number(n: u32, output: &mut [u8], at: usize) -> usize
     requires { ⌜ at + 10 ≤ length (now output) ⌝ }
     ensures count { λ r. ⌜ r ≡ length (fittingAt at (spelling n) (now (output .entry))) ⌝ }
     ensures bytes { λ _. ⌜ now (output .exit) ≡ placed at (spelling n) (now (output .entry)) ⌝ }
 {
-    decimal::put(n, &mut output[at..])
+    let mut scratch = [0u8; 10];
+    let digits = decimal::print(n, &mut scratch);
+    put_bytes(output, at, digits)
 }
 
 // Copies a text over the output's bytes from `at` on, and answers how many bytes it has. The bytes

@@ -1,4 +1,4 @@
--- What a line of a script asks for (document 01, 'Script and listing'). Assumes nothing.
+-- What a line of a script asks for (document 01, 'Script and listing').
 use Prim.Native.Nat.{ℕ}
 use mathlib.Core.Bool.{true, false, cond}
 use mathlib.Core.List.{List}

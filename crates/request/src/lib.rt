@@ -1,5 +1,5 @@
 // What a line of a script asks for (document 01, 'Script and listing'), by its number and its bytes: the order of the fields, a refusal, or
-// a call. Of the machine it takes the number of cores alone: 0, and there is no machine. Assumes nothing.
+// a call. Of the machine it takes the number of cores alone: 0, and there is no machine.
 //
 // The contracts cite `specs/Asks.antt`. The public function requires nothing.
 use core::calls::Act;

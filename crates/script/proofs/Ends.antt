@@ -1,5 +1,4 @@
 -- Where a field ends, byte by byte, and how that cuts a line into its fields.
--- Assumes nothing.
 use mathlib.Core.Path.{_≡_, refl, ap, _∙_}
 use mathlib.Core.Logic.{dite}
 use mathlib.Core.Bool.{Bool, true, false, cond}
@@ -18,7 +17,7 @@ use Rattle.script.specs.Line.{longest, untilSpace, fieldEnd, afterField,
 use Rattle.script.specs.declared.fields.Spaces.{Spaces}
 use Rattle.script.specs.declared.fields.Bounds.{Bounds}
 use Rattle.script.specs.declared.fields.Bounds.the-variants.{Four, Other}
-use Rattle.script.specs.Spaces.{between, Spaced, Parted}
+use Rattle.script.specs.Spaces.{bytesBetween, Spaced, Parted}
 use Rattle.script.proofs.Laws.{some-piece}
 
 -- ---- a field ends at a space, or goes on, or the line ends
@@ -86,7 +85,7 @@ module _ (line : List ℕ) (from to : ℕ) (e : to ≡ fieldEnd line from) where
   unfolding fieldEnd
   inside h = omega (arith, ends-within (drop from line), length-drop from line)
 
-  pub cut-at : to < length line → pieces 32 (drop from line) ≡ between from to line ∷ pieces 32 (drop (to + 1) line)
+  pub cut-at : to < length line → pieces 32 (drop from line) ≡ bytesBetween from to line ∷ pieces 32 (drop (to + 1) line)
   unfolding fieldEnd Cut
   cut-at h =
       let bs = drop from line in
@@ -118,7 +117,7 @@ pub record InRow (line : List ℕ) (a b c : ℕ) : Type 0 where
 
 module _ {line : List ℕ} {a b c : ℕ} (row : InRow line a b c) where
   abbrev front : List (List ℕ) → List (List ℕ)
-  front ps = take a line ∷ between (a + 1) b line ∷ between (b + 1) c line ∷ ps
+  front ps = take a line ∷ bytesBetween (a + 1) b line ∷ bytesBetween (b + 1) c line ∷ ps
 
   pub apart : (a < b) × (b < c)
   apart = (omega (arith, not-before line (a + 1) b (row .two)), omega (arith, not-before line (b + 1) c (row .three)))
@@ -136,7 +135,7 @@ module _ {line : List ℕ} {a b c : ℕ} (row : InRow line a b c) where
       let d = fieldEnd line (c + 1) in
       let last = some-piece 32 (drop (d + 1) line) in
       not-four line (row .short) _
-      (three-cut h ∙ ap front (cut-at line (c + 1) d refl l ∙ ap (_∷_ (between (c + 1) d line)) last))
+      (three-cut h ∙ ap front (cut-at line (c + 1) d refl l ∙ ap (_∷_ (bytesBetween (c + 1) d line)) last))
       (λ e. omega arith)
 
   pub under : length line ≤ c → fields line ≡ []
@@ -145,8 +144,9 @@ module _ {line : List ℕ} {a b c : ℕ} (row : InRow line a b c) where
       (λ ha. let one-cut = cut-at line 0 a (row .one) ha in
       dite (decLt b (length line))
       (λ hb. let two-cut = cut-at line (a + 1) b (row .two) hb in
-      with-pieces line (row .short) _ (one-cut ∙ ap (_∷_ (between 0 a line)) (two-cut ∙ ap (_∷_ (between (a + 1) b line)) (cut-last line (b + 1) c (row .three) h))))
-      (λ nb. with-pieces line (row .short) _ (one-cut ∙ ap (_∷_ (between 0 a line)) (cut-last line (a + 1) b (row .two) (omega arith)))))
+      with-pieces line (row .short) _ (one-cut ∙ ap (_∷_ (bytesBetween 0 a line))
+      (two-cut ∙ ap (_∷_ (bytesBetween (a + 1) b line)) (cut-last line (b + 1) c (row .three) h))))
+      (λ nb. with-pieces line (row .short) _ (one-cut ∙ ap (_∷_ (bytesBetween 0 a line)) (cut-last line (a + 1) b (row .two) (omega arith)))))
       (λ na. with-pieces line (row .short) _ (cut-last line 0 a (row .one) (omega arith)))
 
 -- ---- the same, by where the second, third and fourth field begin

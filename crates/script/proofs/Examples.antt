@@ -1,12 +1,12 @@
 -- Lines at the edges of the rule, as tables that antt computes.
--- Assumes nothing.
 use mathlib.Core.Path.{_≡_, refl}
 use mathlib.Core.Bool.{Bool, true, false, _&&_}
 use mathlib.Core.List.{List, [], _∷_, _++_, map}
 use Prim.Native.Nat.{ℕ}
 use lib.ListN.{getD, replicate}
+use Rattle.decimal.specs.Bytes.{byte, ascii}
 use Rattle.decimal.specs.Spelling.{spelling, spellingIn}
-use Rattle.decimal.specs.Reading.{allDigits, noLeadingZero, valueAfter, isNumber, reads}
+use Rattle.decimal.specs.Reading.{allDigits, noLeadingZero, valueAfter, isNumber, readsAs}
 use Rattle.script.specs.declared.Call.the-variants as Call
 use Rattle.script.specs.declared.Line.{Line}
 use Rattle.script.specs.declared.Line.the-variants.{Spells, Malformed}
@@ -14,41 +14,41 @@ use Rattle.script.specs.declared.Columns.{Columns}
 use Rattle.script.specs.declared.Names.{Names}
 use Rattle.script.specs.declared.Names.the-variants as Names
 use Rattle.script.specs.Pieces.{onto, pieces, same}
-use Rattle.script.specs.Line.{callName, coreName, cardName, valueName, fields, place, ordered, names, verb, numbered, field, number, unused, spelt, meant, spells}
+use Rattle.script.specs.Line.{callName, coreName, cardName, valueName, fields, place, ordered, names, verb, numbered, field, withNumber, withDash, spelt, meant, spells}
 
 -- ---- words, and a line of them with one space between
 
 abbrev setup : List ℕ
-setup = 115 ∷ 101 ∷ 116 ∷ 117 ∷ 112 ∷ []
+setup = ascii "setup"
 
 abbrev release : List ℕ
-release = 114 ∷ 101 ∷ 108 ∷ 101 ∷ 97 ∷ 115 ∷ 101 ∷ []
+release = ascii "release"
 
 abbrev begin : List ℕ
-begin = 98 ∷ 101 ∷ 103 ∷ 105 ∷ 110 ∷ []
+begin = ascii "begin"
 
 abbrev read : List ℕ
-read = 114 ∷ 101 ∷ 97 ∷ 100 ∷ []
+read = ascii "read"
 
 abbrev write : List ℕ
-write = 119 ∷ 114 ∷ 105 ∷ 116 ∷ 101 ∷ []
+write = ascii "write"
 
 abbrev commit : List ℕ
-commit = 99 ∷ 111 ∷ 109 ∷ 109 ∷ 105 ∷ 116 ∷ []
+commit = ascii "commit"
 
 abbrev giveup : List ℕ
-giveup = 103 ∷ 105 ∷ 118 ∷ 101 ∷ 117 ∷ 112 ∷ []
+giveup = ascii "giveup"
 
 abbrev finish : List ℕ
-finish = 102 ∷ 105 ∷ 110 ∷ 105 ∷ 115 ∷ 104 ∷ []
+finish = ascii "finish"
 
 abbrev dash : List ℕ
-dash = 45 ∷ []
+dash = ascii "-"
 
 abbrev joined : List (List ℕ) → List ℕ
 joined [] = []
 joined (w ∷ []) = w
-joined (w ∷ v ∷ ws) = w ++ 32 ∷ joined (v ∷ ws)
+joined (w ∷ v ∷ ws) = w ++ ascii " " ++ joined (v ∷ ws)
 
 -- ---- lines of values: each of the eight calls, then lines that spell none
 
@@ -68,26 +68,26 @@ table =
     -- an empty line, no call's name, a name cut short, a carriage return at the end
     ∷ ([], Malformed)
     ∷ ([] ∷ spelling 1 ∷ dash ∷ dash ∷ [], Malformed)
-    ∷ ((98 ∷ 101 ∷ 103 ∷ []) ∷ spelling 1 ∷ dash ∷ dash ∷ [], Malformed)
-    ∷ (begin ∷ spelling 1 ∷ dash ∷ (45 ∷ 13 ∷ []) ∷ [], Malformed)
+    ∷ (ascii "beg" ∷ spelling 1 ∷ dash ∷ dash ∷ [], Malformed)
+    ∷ (begin ∷ spelling 1 ∷ dash ∷ ascii "-\r" ∷ [], Malformed)
     -- three fields, five, two spaces in a row, a space at the end, 65 bytes
     ∷ (begin ∷ spelling 1 ∷ dash ∷ [], Malformed)
     ∷ (begin ∷ spelling 1 ∷ dash ∷ dash ∷ dash ∷ [], Malformed)
     ∷ (begin ∷ [] ∷ spelling 1 ∷ dash ∷ dash ∷ [], Malformed)
     ∷ (begin ∷ spelling 1 ∷ dash ∷ dash ∷ [] ∷ [], Malformed)
-    ∷ (begin ∷ spelling 1 ∷ dash ∷ replicate 55 45 ∷ [], Malformed)
+    ∷ (begin ∷ spelling 1 ∷ dash ∷ replicate 55 (byte "-") ∷ [], Malformed)
     -- a number where `-` is due, `-` where a number is, a leading zero, a job above 65,535, a number above 4,294,967,295
     ∷ (begin ∷ spelling 1 ∷ spelling 0 ∷ dash ∷ [], Malformed)
     ∷ (read ∷ spelling 1 ∷ spelling 0 ∷ spelling 0 ∷ [], Malformed)
     ∷ (write ∷ spelling 1 ∷ spelling 0 ∷ dash ∷ [], Malformed)
     ∷ (finish ∷ dash ∷ dash ∷ dash ∷ [], Malformed)
-    ∷ (write ∷ spelling 1 ∷ spelling 0 ∷ (48 ∷ 49 ∷ []) ∷ [], Malformed)
+    ∷ (write ∷ spelling 1 ∷ spelling 0 ∷ ascii "01" ∷ [], Malformed)
     ∷ (release ∷ spelling 0 ∷ spelling 65536 ∷ spelling 100 ∷ [], Malformed)
     ∷ (write ∷ spelling 0 ∷ spelling 0 ∷ spelling 4294967296 ∷ [], Malformed)
     ∷ []
 
 each-line : map (λ row. spells inOrder (joined (row .0))) table ≡ map (λ row. row .1) table
-unfolding spells meant fields pieces onto verb same field numbered number unused spelt reads isNumber allDigits noLeadingZero valueAfter spelling spellingIn
+unfolding spells meant fields pieces onto verb same field numbered withNumber withDash spelt readsAs isNumber allDigits noLeadingZero valueAfter spelling spellingIn
 each-line = refl
 
 -- ---- lines of names: all 24 orders of the four, then lines that give none

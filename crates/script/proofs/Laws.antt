@@ -1,8 +1,7 @@
 -- What a caller knows of lines: a line of more than 64 bytes spells no call and gives no order, and how the lines of a script go by what
 -- stands in front of a newline.
--- Assumes nothing.
 use mathlib.Core.Path.{_≡_, refl, _∙_}
-use mathlib.Core.Bool.{Bool, true, false, not, cond, _&&_, and-eq-true-iff}
+use mathlib.Core.Bool.{Bool, true, false, not, cond, and-eq-true-iff}
 use mathlib.Core.List.{List, [], _∷_, _++_, append-nil}
 use Prim.Native.Nat.{ℕ, _<_}
 use lib.Dec.{eqb}
@@ -11,7 +10,7 @@ use borrow.Author.Tests.{lt-leb, eq-eqb, not-true}
 use Rattle.script.specs.declared.Line.the-variants.{Malformed}
 use Rattle.script.specs.declared.Columns.{Columns}
 use Rattle.script.specs.declared.Names.the-variants as Names
-use Rattle.script.specs.Pieces.{onto, pieces, ended, lines, same, free}
+use Rattle.script.specs.Pieces.{onto, pieces, withoutLastEmpty, lines, same, free}
 use Rattle.script.specs.Line.{longest, fields, place, ordered, names, verb, meant, spelt, spells}
 
 -- ---- a line of more than 64 bytes, and any other that has no four fields
@@ -79,12 +78,12 @@ pieces-cut at p rest h =
 -- ---- the lines of a script
 
 pub lines-empty : lines [] ≡ []
-unfolding lines pieces ended
+unfolding lines pieces withoutLastEmpty
 lines-empty = refl
 
 -- a newline ends a line
 pub lines-newline : (p rest : List ℕ) → free 10 p ≡ true → lines (p ++ 10 ∷ rest) ≡ p ∷ lines rest
-unfolding lines ended
+unfolding lines withoutLastEmpty
 lines-newline p rest h = rw (pieces-cut 10 p rest h, some-piece 10 rest)
 
 -- the rest of a line whose first bytes are gone, and the lines after it
@@ -92,19 +91,19 @@ unfoldable pub rest-of-line : List ℕ → List ℕ
 rest-of-line rest = first (pieces 10 rest)
 
 unfoldable pub later-lines : List ℕ → List (List ℕ)
-later-lines rest = ended (others (pieces 10 rest))
+later-lines rest = withoutLastEmpty (others (pieces 10 rest))
 
-ended-some : (b : ℕ) (p : List ℕ) (ps : List (List ℕ)) → ended ((b ∷ p) ∷ ps) ≡ (b ∷ p) ∷ ended ps
-unfolding ended
-ended-some b p [] = refl
-ended-some b p (q ∷ ps) = refl
+last-kept : (b : ℕ) (p : List ℕ) (ps : List (List ℕ)) → withoutLastEmpty ((b ∷ p) ∷ ps) ≡ (b ∷ p) ∷ withoutLastEmpty ps
+unfolding withoutLastEmpty
+last-kept b p [] = refl
+last-kept b p (q ∷ ps) = refl
 
 -- bytes that hold no newline begin a line
 pub lines-begun : (b : ℕ) (p rest : List ℕ) → free 10 (b ∷ p) ≡ true → lines (b ∷ p ++ rest) ≡ (b ∷ p ++ rest-of-line rest) ∷ later-lines rest
 unfolding lines rest-of-line later-lines
-lines-begun b p rest h = rw (pieces-begun 10 (b ∷ p) rest h, ended-some)
+lines-begun b p rest h = rw (pieces-begun 10 (b ∷ p) rest h, last-kept)
 
 -- the last newline may be missing
 pub lines-last : (b : ℕ) (p : List ℕ) → free 10 (b ∷ p) ≡ true → lines (b ∷ p) ≡ (b ∷ p) ∷ []
-unfolding rest-of-line later-lines pieces first others ended
+unfolding rest-of-line later-lines pieces first others withoutLastEmpty
 lines-last b p h = rw append-nil at (lines-begun b p [] h)

@@ -1,4 +1,4 @@
--- The laws that callers cite, and the facts that they and the functions' proofs rest on. Assumes nothing.
+-- The laws that callers cite, and the facts that they and the functions' proofs rest on.
 pub mod Laws
 mod Same
 mod Ends

@@ -1,5 +1,4 @@
 -- Whether two lists of bytes are the same: by their lengths, and byte by byte.
--- Assumes nothing.
 use mathlib.Core.Path.{_≡_, refl, ap}
 use mathlib.Core.Bool.{Bool, true, false, _&&_}
 use mathlib.Core.List.{List, [], _∷_}

@@ -1,5 +1,4 @@
 -- What a field that is not of the wanted kind gives.
--- Assumes nothing.
 use mathlib.Core.Path.{_≡_, refl}
 use mathlib.Core.Logic.{⊎-elim}
 use mathlib.Core.List.{[], _∷_}
@@ -13,17 +12,17 @@ use Rattle.script.specs.declared.Verb.{Verb}
 use Rattle.script.specs.declared.Verb.the-variants as Verb
 use Rattle.script.specs.declared.Field.{Field}
 use Rattle.script.specs.declared.Field.the-variants as Field
-use Rattle.script.specs.Line.{number, unused, spelt}
+use Rattle.script.specs.Line.{withNumber, withDash, spelt}
 use Rattle.script.proofs.Field.{the-type}
 
-pub not-unused : (f : Field) (l : Line) → OneOf (1 ∷ 2 ∷ []) (tagOf the-type f) → unused f l ≡ Malformed
-unfolding unused
+pub not-unused : (f : Field) (l : Line) → OneOf (1 ∷ 2 ∷ []) (tagOf the-type f) → withDash f l ≡ Malformed
+unfolding withDash
 not-unused Field.Unused l k = absurd (⊎-elim (λ e. omega arith) (λ e. omega arith) k)
 not-unused (Field.Number n) l k = refl
 not-unused Field.Malformed l k = refl
 
-pub no-number : (f : Field) (l : ℕ → Line) → OneOf (0 ∷ 2 ∷ []) (tagOf the-type f) → number f l ≡ Malformed
-unfolding number
+pub no-number : (f : Field) (l : ℕ → Line) → OneOf (0 ∷ 2 ∷ []) (tagOf the-type f) → withNumber f l ≡ Malformed
+unfolding withNumber
 no-number Field.Unused l k = refl
 no-number (Field.Number n) l k = absurd (⊎-elim (λ e. omega arith) (λ e. omega arith) k)
 no-number Field.Malformed l k = refl

@@ -1,10 +1,11 @@
--- Which call a line spells, and which order of the fields a line of names gives. Assumes nothing.
+-- Which call a line spells, and which order of the fields a line of names gives.
 use Prim.Native.Nat.{ℕ, suc, _+_}
 use mathlib.Core.Bool.{Bool, cond, _&&_}
 use mathlib.Core.List.{List, [], _∷_}
 use lib.Dec.{eqb, leb, ltb}
 use lib.ListN.{length, getD, drop}
-use Rattle.decimal.specs.Reading.{reads}
+use Rattle.decimal.specs.Bytes.{byte, ascii}
+use Rattle.decimal.specs.Reading.{readsAs}
 use Rattle.decimal.specs.declared.Number.{Number}
 use Rattle.decimal.specs.declared.Number.the-variants as Read
 use Rattle.script.specs.declared.Call.{Call}
@@ -26,14 +27,14 @@ use Rattle.script.specs.Pieces.{pieces, same}
 abbrev pub longest : ℕ
 longest = 64
 
--- the four fields of a line, one space (byte 32) between; none where the line is too long or has more or fewer fields
+-- the four fields of a line, one space between; none where the line is too long or has more or fewer fields
 unfoldable pub fields : List ℕ → List (List ℕ)
-fields line = cond (leb (length line) longest && eqb (length (pieces 32 line)) 4) (pieces 32 line) []
+fields line = cond (leb (length line) longest && eqb (length (pieces (byte " ") line)) 4) (pieces (byte " ") line) []
 
 -- how many bytes stand before the first space, or before the end
 unfoldable pub untilSpace : List ℕ → ℕ
 untilSpace [] = 0
-untilSpace (b ∷ bs) = cond (eqb b 32) 0 (suc (untilSpace bs))
+untilSpace (b ∷ bs) = cond (eqb b (byte " ")) 0 (suc (untilSpace bs))
 
 -- where the field that begins at a place ends: at the first space from there on, or at the line's end; past the end, at the place itself
 unfoldable pub fieldEnd : List ℕ → ℕ → ℕ
@@ -46,18 +47,17 @@ afterField line from = cond (leb from (length line)) (fieldEnd line from + 1) fr
 
 -- ---- the line of names: call, core, card, value, each once, in any order
 
--- the bytes of `call`, `core`, `card` and `value`
 abbrev pub callName : List ℕ
-callName = 99 ∷ 97 ∷ 108 ∷ 108 ∷ []
+callName = ascii "call"
 
 abbrev pub coreName : List ℕ
-coreName = 99 ∷ 111 ∷ 114 ∷ 101 ∷ []
+coreName = ascii "core"
 
 abbrev pub cardName : List ℕ
-cardName = 99 ∷ 97 ∷ 114 ∷ 100 ∷ []
+cardName = ascii "card"
 
 abbrev pub valueName : List ℕ
-valueName = 118 ∷ 97 ∷ 108 ∷ 117 ∷ 101 ∷ []
+valueName = ascii "value"
 
 -- the place of the first field that is this name; past the last, where none is
 unfoldable pub place : List ℕ → List (List ℕ) → ℕ
@@ -79,50 +79,50 @@ names line = ordered (fields line)
 
 -- ---- a line of values
 
--- setup, release, begin, read, write, commit, giveup, finish
+-- how the calls are written
 unfoldable pub verb : List ℕ → Verb
 verb f =
-    cond (same f (115 ∷ 101 ∷ 116 ∷ 117 ∷ 112 ∷ [])) Verb.Setup
-    (cond (same f (114 ∷ 101 ∷ 108 ∷ 101 ∷ 97 ∷ 115 ∷ 101 ∷ [])) Verb.Release
-    (cond (same f (98 ∷ 101 ∷ 103 ∷ 105 ∷ 110 ∷ [])) Verb.Begin
-    (cond (same f (114 ∷ 101 ∷ 97 ∷ 100 ∷ [])) Verb.Read
-    (cond (same f (119 ∷ 114 ∷ 105 ∷ 116 ∷ 101 ∷ [])) Verb.Write
-    (cond (same f (99 ∷ 111 ∷ 109 ∷ 109 ∷ 105 ∷ 116 ∷ [])) Verb.Commit
-    (cond (same f (103 ∷ 105 ∷ 118 ∷ 101 ∷ 117 ∷ 112 ∷ [])) Verb.GiveUp
-    (cond (same f (102 ∷ 105 ∷ 110 ∷ 105 ∷ 115 ∷ 104 ∷ [])) Verb.Finish Verb.Unknown)))))))
+    cond (same f (ascii "setup")) Verb.Setup
+    (cond (same f (ascii "release")) Verb.Release
+    (cond (same f (ascii "begin")) Verb.Begin
+    (cond (same f (ascii "read")) Verb.Read
+    (cond (same f (ascii "write")) Verb.Write
+    (cond (same f (ascii "commit")) Verb.Commit
+    (cond (same f (ascii "giveup")) Verb.GiveUp
+    (cond (same f (ascii "finish")) Verb.Finish Verb.Unknown)))))))
 
 -- numbers have no leading zeros and are at most 4,294,967,295
 unfoldable pub numbered : Number → Field
 numbered (Read.Value n) = Field.Number n
 numbered Read.Malformed = Field.Malformed
 
--- an unused field is `-` (byte 45)
+-- an unused field is `-`
 unfoldable pub field : List ℕ → Field
-field f = cond (same f (45 ∷ [])) Field.Unused (numbered (reads f))
+field f = cond (same f (ascii "-")) Field.Unused (numbered (readsAs f))
 
--- what a field that must be a number gives
-unfoldable pub number : Field → (ℕ → Line) → Line
-number Field.Unused k = Malformed
-number (Field.Number n) k = k n
-number Field.Malformed k = Malformed
+-- a field that must be a number: the line goes on with it, and is malformed where it is none
+unfoldable pub withNumber : Field → (ℕ → Line) → Line
+withNumber Field.Unused k = Malformed
+withNumber (Field.Number n) k = k n
+withNumber Field.Malformed k = Malformed
 
--- a field that must be unused
-unfoldable pub unused : Field → Line → Line
-unused Field.Unused l = l
-unused (Field.Number n) l = Malformed
-unused Field.Malformed l = Malformed
+-- a field that must be unused: the line is malformed where it is not
+unfoldable pub withDash : Field → Line → Line
+withDash Field.Unused l = l
+withDash (Field.Number n) l = Malformed
+withDash Field.Malformed l = Malformed
 
 -- setup puts its two numbers under core and card; release puts the job number, at most 65,535, under card and the deadline under value
 unfoldable pub spelt : Verb → Field → Field → Field → Line
-spelt Verb.Setup core card value = number core (λ n. number card (λ d. unused value (Spells (Call.Setup n d))))
+spelt Verb.Setup core card value = withNumber core (λ n. withNumber card (λ d. withDash value (Spells (Call.Setup n d))))
 spelt Verb.Release core card value =
-    number core (λ c. number card (λ j. number value (λ t. cond (leb j 65535) (Spells (Call.Release c j t)) Malformed)))
-spelt Verb.Begin core card value = number core (λ c. unused card (unused value (Spells (Call.Begin c))))
-spelt Verb.Read core card value = number core (λ c. number card (λ d. unused value (Spells (Call.Read c d))))
-spelt Verb.Write core card value = number core (λ c. number card (λ d. number value (λ v. Spells (Call.Write c d v))))
-spelt Verb.Commit core card value = number core (λ c. unused card (unused value (Spells (Call.Commit c))))
-spelt Verb.GiveUp core card value = number core (λ c. unused card (unused value (Spells (Call.GiveUp c))))
-spelt Verb.Finish core card value = number core (λ c. unused card (unused value (Spells (Call.Finish c))))
+    withNumber core (λ c. withNumber card (λ j. withNumber value (λ t. cond (leb j 65535) (Spells (Call.Release c j t)) Malformed)))
+spelt Verb.Begin core card value = withNumber core (λ c. withDash card (withDash value (Spells (Call.Begin c))))
+spelt Verb.Read core card value = withNumber core (λ c. withNumber card (λ d. withDash value (Spells (Call.Read c d))))
+spelt Verb.Write core card value = withNumber core (λ c. withNumber card (λ d. withNumber value (λ v. Spells (Call.Write c d v))))
+spelt Verb.Commit core card value = withNumber core (λ c. withDash card (withDash value (Spells (Call.Commit c))))
+spelt Verb.GiveUp core card value = withNumber core (λ c. withDash card (withDash value (Spells (Call.GiveUp c))))
+spelt Verb.Finish core card value = withNumber core (λ c. withDash card (withDash value (Spells (Call.Finish c))))
 spelt Verb.Unknown core card value = Malformed
 
 -- the call that four fields in this order spell

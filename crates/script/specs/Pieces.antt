@@ -1,8 +1,9 @@
--- A list of bytes cut at a byte, and the lines of a script. Assumes nothing.
+-- A list of bytes cut at a byte, and the lines of a script.
 use Prim.Native.Nat.{ℕ}
 use mathlib.Core.Bool.{Bool, true, false, cond, not, _&&_}
 use mathlib.Core.List.{List, [], _∷_}
 use lib.Dec.{eqb}
+use Rattle.decimal.specs.Bytes.{byte}
 
 -- a byte in front of the first piece
 unfoldable pub onto : ℕ → List (List ℕ) → List (List ℕ)
@@ -15,15 +16,15 @@ pieces at [] = [] ∷ []
 pieces at (b ∷ bs) = cond (eqb b at) ([] ∷ pieces at bs) (onto b (pieces at bs))
 
 -- without a last piece that has no byte
-unfoldable pub ended : List (List ℕ) → List (List ℕ)
-ended [] = []
-ended ([] ∷ []) = []
-ended ((b ∷ bs) ∷ []) = (b ∷ bs) ∷ []
-ended (p ∷ q ∷ ps) = p ∷ ended (q ∷ ps)
+unfoldable pub withoutLastEmpty : List (List ℕ) → List (List ℕ)
+withoutLastEmpty [] = []
+withoutLastEmpty ([] ∷ []) = []
+withoutLastEmpty ((b ∷ bs) ∷ []) = (b ∷ bs) ∷ []
+withoutLastEmpty (p ∷ q ∷ ps) = p ∷ withoutLastEmpty (q ∷ ps)
 
--- the lines of a script, without their newlines (byte 10); the last newline may be missing
+-- the lines of a script, without their newlines; the last newline may be missing
 unfoldable pub lines : List ℕ → List (List ℕ)
-lines script = ended (pieces 10 script)
+lines script = withoutLastEmpty (pieces (byte "\n") script)
 
 -- whether two lists of bytes are the same
 unfoldable pub same : List ℕ → List ℕ → Bool

@@ -1,4 +1,4 @@
-// A line of values: its call's name, its three fields of a number, and the call that they spell. Assumes nothing.
+// A line of values: its call's name, its three fields of a number, and the call that they spell.
 use crate::Call;
 use crate::Columns;
 use crate::Field;
@@ -12,7 +12,7 @@ use decimal::Number;
 ghost use mathlib.Core.Path.{_≡_};
 ghost use mathlib.Core.Bool.{cond};
 ghost use Rattle.script.specs.Pieces.{same};
-ghost use Rattle.script.specs.Line.{verb, field, unused, spelt, spells};
+ghost use Rattle.script.specs.Line.{verb, field, withDash, spelt, spells};
 
 // The call that a line spells, with its fields in this order.
 pub fn parse(at: Columns, line: &[u8]) -> Line
@@ -103,7 +103,7 @@ fn spelt(verb: Verb, core: Field, card: Field, value: Field) -> Line
 
 // A call that leaves the field of the value unused.
 fn without_value(call: Call, value: Field) -> Line
-    ensures { λ r. ⌜ r ≡ unused value (Line.Spells call) ⌝ }
+    ensures { λ r. ⌜ r ≡ withDash value (Line.Spells call) ⌝ }
 {
     let Field::Unused = value else {
         return Line::Malformed;
@@ -113,7 +113,7 @@ fn without_value(call: Call, value: Field) -> Line
 
 // A call that leaves the fields of the card and the value unused.
 fn core_alone(call: Call, card: Field, value: Field) -> Line
-    ensures { λ r. ⌜ r ≡ unused card (unused value (Line.Spells call)) ⌝ }
+    ensures { λ r. ⌜ r ≡ withDash card (withDash value (Line.Spells call)) ⌝ }
 {
     let Field::Unused = card else {
         return Line::Malformed;

@@ -1,4 +1,4 @@
-// The fields of a line: where each stands, and its bytes. Assumes nothing.
+// The fields of a line: where each stands, and its bytes. `part` asks that the spaces it is given are the line's.
 ghost use mathlib.Core.Path.{_≡_};
 ghost use mathlib.Core.List.{[]};
 ghost use lib.ListN.{getD};
@@ -21,7 +21,7 @@ pub(crate) enum Bounds {
 const LONGEST: usize = 64;
 
 // Where the field that begins at a place ends: at the first space from there on, or at the line's end.
-pub fn field_end(line: &[u8], from: usize) -> usize
+pub(crate) fn field_end(line: &[u8], from: usize) -> usize
     ensures { λ r. ⌜ r ≡ fieldEnd (now (line .entry)) from ⌝ }
 {
     let mut i = from;
@@ -35,7 +35,7 @@ pub fn field_end(line: &[u8], from: usize) -> usize
 }
 
 // Where the field after the one that begins at a place begins: past that one and its space.
-pub fn after_field(line: &[u8], from: usize) -> usize
+pub(crate) fn after_field(line: &[u8], from: usize) -> usize
     ensures { λ r. ⌜ r ≡ afterField (now (line .entry)) from ⌝ }
 {
     if line.len() < from {

@@ -1,4 +1,4 @@
-// The line of names: where each name stands. Assumes nothing.
+// The line of names: where each name stands. `place` asks that the spaces it is given are the line's.
 use crate::Columns;
 use crate::Names;
 use crate::fields::Bounds;

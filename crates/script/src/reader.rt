@@ -1,5 +1,5 @@
 // The line reader: a record over the lent line and the place where the next field begins. The core beneath it, `fields::field_end`
-// and `fields::after_field`, takes the line and a number. Assumes nothing.
+// and `fields::after_field`, takes the line and a number.
 ghost use mathlib.Core.Path.{_≡_};
 ghost use Rattle.script.specs.Line.{fieldEnd, afterField};
 use crate::fields::after_field;

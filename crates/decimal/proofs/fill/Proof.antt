@@ -1,6 +1,5 @@
 -- `decimal::fill` meets its contract. The loop's invariant: the spelling of the rest ends at `i`, and with the bytes after `i` behind it it
 -- makes what is asked. The measure is `i`.
--- Assumes nothing.
 use mathlib.Core.Path.{_≡_, refl, ap, _∙_}
 use mathlib.Core.List.{List, [], _∷_, _++_, append-assoc}
 use Prim.Native.Nat.{ℕ, suc, _+_, _-_, _*_, _/_, _%_, _^_, _≤_, _<_}

@@ -1,5 +1,4 @@
 -- `decimal::no_leading_zero` meets its contract: each `return` is a case of the definition, by how many bytes the field has.
--- Assumes nothing.
 use mathlib.Core.Path.{_≡_, refl, sym}
 use mathlib.Core.Bool.{true, false, not}
 use mathlib.Core.List.{List, [], _∷_}

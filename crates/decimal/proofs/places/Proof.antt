@@ -1,5 +1,4 @@
 -- `decimal::places` meets its contract: each arm's numbers have so many digits (`spelling-places`).
--- Assumes nothing.
 use mathlib.Core.Path.{sym, ap}
 use native.Mathlib.Omega.{arith}
 use lib.ListN.{length}

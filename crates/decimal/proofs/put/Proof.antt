@@ -1,6 +1,5 @@
 -- `decimal::put` meets its contract: a scratch under 10 bytes shows no digit, and any other has the bytes that `fill` puts there, whose
 -- number is `places`'s answer.
--- Assumes nothing.
 use native.Mathlib.Omega.{arith}
 use borrow.Author.Needs.{needs}
 use denote.Ref.{now}

@@ -1,6 +1,5 @@
 -- `decimal::read` meets its contract. The loop's invariant: the field has no leading zero, and its bytes before `i` are digits that stand
 -- for `n`. The measure is what is left of the field.
--- Assumes nothing.
 use mathlib.Core.Path.{_≡_, refl, sym, _∙_}
 use mathlib.Core.Logic.{⊎-elim}
 use mathlib.Core.Bool.{true}

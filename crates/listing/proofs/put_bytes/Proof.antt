@@ -1,6 +1,5 @@
 -- `listing::put_bytes` meets its contract. The loop's invariant: the first i bytes of the text stand in the output from `at` on. The
 -- measure is what is left of the text.
--- Assumes nothing.
 use mathlib.Core.Path.{_≡_, refl, sym, ap, _∙_}
 use Prim.Native.Nat.{_+_, _-_, _≤_}
 use native.Mathlib.Numerals.{add-one}

@@ -1,5 +1,4 @@
 -- `listing::put_field` meets its contract: by the value's case, what `put_number` or `put_bytes` leaves.
--- Assumes nothing.
 use borrow.Author.Needs.{needs}
 use Rattle.listing.proofs.put_field.Statement.{statement}
 use Rattle.listing.proofs.put_field.Tie as tie

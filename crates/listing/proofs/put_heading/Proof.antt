@@ -1,5 +1,4 @@
 -- `listing::put_heading` meets its contract: a short output shows nothing, and in any other the heading stands at the start.
--- Assumes nothing.
 use native.Mathlib.Nat.{zero-add}
 use native.Mathlib.Omega.{arith}
 use denote.Ref.{now}

@@ -1,23 +1,23 @@
 -- `listing::put_line` meets its contract: the number, the word between two spaces, the value and the newline stand one after another.
--- Assumes nothing.
 use mathlib.Core.Path.{_≡_, sym, ap, _∙_}
-use mathlib.Core.List.{List, [], _∷_, _++_, append-assoc}
+use mathlib.Core.List.{List, _++_, append-assoc}
 use Prim.Native.Nat.{ℕ, _+_, _≤_}
 use native.Mathlib.Nat.{zero-add}
 use native.Mathlib.Omega.{arith}
 use lib.ListN.{length, take, length-append, length-take}
 use denote.Ref.{now}
 use borrow.Author.Needs.{needs}
+use Rattle.decimal.specs.Bytes.{ascii}
 use Rattle.decimal.specs.Spelling.{spelling}
 use Rattle.decimal.proofs.Laws.{spelling-length}
 use Rattle.core.specs.declared.Answer.{Answer}
-use Rattle.listing.specs.Text.{spaced, value, said, line}
+use Rattle.listing.specs.Text.{spaced, valueText, said, line}
 use Rattle.listing.proofs.Laws.{line-short, spaced-short, value-short, nothing-put, Stands, stands-none, stands-next, stands-length, stands-put}
 use Rattle.listing.proofs.put_line.Statement.{statement}
 use Rattle.listing.proofs.put_line.Tie as tie
 
 -- the four texts are the line
-parts : (n : ℕ) (a : Answer) → spelling n ++ spaced a ++ value a ++ (10 ∷ []) ≡ line n a
+parts : (n : ℕ) (a : Answer) → spelling n ++ spaced a ++ valueText a ++ ascii "\n" ≡ line n a
 unfolding line said
 parts n a = simp append-assoc
 
@@ -32,13 +32,13 @@ abbrev word : tie.Start → List ℕ
 word s = spaced (s .args .answer)
 
 abbrev shown : tie.Start → List ℕ
-shown s = value (s .args .answer)
+shown s = valueText (s .args .answer)
 
 -- how long they are together
 to-word-short : (n : ℕ) (a : Answer) → length (spelling n ++ spaced a) ≤ 21
 to-word-short n a = rw length-append (omega (arith, spelling-length n, spaced-short a))
 
-to-value-short : (n : ℕ) (a : Answer) → length (spelling n ++ spaced a ++ value a) ≤ 31
+to-value-short : (n : ℕ) (a : Answer) → length (spelling n ++ spaced a ++ valueText a) ≤ 31
 to-value-short n a = rw length-append (omega (arith, to-word-short n a, value-short a))
 
 -- ---- after each of the four calls: the call before it, and where the function began
@@ -104,7 +104,7 @@ line-stands c =
     let args = of-line c .args in
     let done = c .put-bytes2 .ensures in
     let short = to-value-short (args .number) (args .answer) in
-    rw parts at (stands-next (10 ∷ []) (value-stands (to-value c)) (omega arith) (done .0) (done .1))
+    rw parts at (stands-next (ascii "\n") (value-stands (to-value c)) (omega arith) (done .0) (done .1))
 
 -- ---- the needs
 

@@ -1,41 +1,31 @@
--- `listing::put_number` meets its contract: what `decimal::put` leaves in the part of the output from `at` on.
--- Assumes nothing.
-use mathlib.Core.Path.{_≡_, refl, sym, ap, _∙_}
-use Prim.Native.Nat.{_+_, _-_, _≤_, _<_}
+-- `listing::put_number` meets its contract: a scratch of 10 bytes shows all the digits, and `put_bytes` copies the part that holds them.
+use mathlib.Core.Path.{_≡_, _∙_}
 use native.Mathlib.Omega.{arith}
-use lib.ListN.{length, drop, length-drop}
 use denote.Ref.{now}
 use borrow.Author.Needs.{needs}
 use Rattle.decimal.specs.Spelling.{spelling}
-use Rattle.decimal.proofs.Laws.{spelling-length, shown-whole, printed-whole}
-use Rattle.listing.proofs.Laws.{fittingAt-whole, placed-part}
+use Rattle.decimal.proofs.Laws.{shown-whole}
 use Rattle.listing.proofs.put_number.Statement.{statement}
 use Rattle.listing.proofs.put_number.Tie as tie
 
-sub-put : tie.Need-sub-put
-sub-put c = search needs
+slice-aggregate-print : tie.Need-slice-aggregate-print
+slice-aggregate-print c = search needs
 
-part-put-start : tie.Need-part-put-start
-part-put-start c = search needs
+print-requires : tie.Need-print-requires
+print-requires c κs = search needs
 
-part-put-end : tie.Need-part-put-end
-part-put-end c = search needs
+-- the part holds the number's digits
+digits : (c : tie.After-print) → now (c .print .result) ≡ spelling (c .before .before .before .args .n)
+digits c = c .print .ensures .0 ∙ shown-whole (c .before .before .before .args .n) _ (omega arith)
 
-put-requires : tie.Need-put-requires
-put-requires c κs = search needs
+put-bytes-requires : tie.Need-put-bytes-requires
+put-bytes-requires c κs = search needs
 
 same-length : tie.Need-same-length
 same-length c = search needs
 
 returns : tie.Need-returns
-returns c =
-    let start = c .before .before .before .before .before .args in
-    let done = c .before .before .put in
-    let some = spelling-length (start .n) in (
-      done .ensures .0 ∙ ap length (shown-whole (start .n) _ (omega arith) ∙ sym (fittingAt-whole (start .at) (spelling (start .n)) (now (start .output)) (omega arith))),
-      placed-part (start .at) (spelling (start .n)) (now (start .output)) _ (omega arith) (done .ensures .1 ∙ printed-whole (start .n) _ (omega arith)),
-    )
+returns c = rw (digits (c .before .before .before .before .before .before)) at (c .before .before .before .put-bytes .ensures)
 
 pub put-number-spec : {M : Type 1} → statement M
-put-number-spec =
-    tie.close (tie.spec sub-put part-put-start part-put-end put-requires same-length returns)
+put-number-spec = tie.close (tie.spec slice-aggregate-print print-requires put-bytes-requires same-length returns)

@@ -1,5 +1,4 @@
 -- `listing::said_of` meets its contract: once the answer is known, its word and its value are those of the definitions by computation.
--- Assumes nothing.
 use mathlib.Core.Path.{refl}
 use borrow.Author.Needs.{needs}
 use Rattle.listing.proofs.said_of.Statement.{statement}

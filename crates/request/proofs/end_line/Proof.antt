@@ -1,4 +1,4 @@
--- `request::end_line` meets its contract. Assumes nothing.
+-- `request::end_line` meets its contract.
 use mathlib.Core.Path.{refl}
 use borrow.Author.Needs.{needs}
 use borrow.Author.Tests.{eq-eqb, ne-eqb, lt-ltb, le-ltb}

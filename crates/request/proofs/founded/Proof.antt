@@ -1,4 +1,4 @@
--- `request::founded` meets its contract. Assumes nothing.
+-- `request::founded` meets its contract.
 use mathlib.Core.Path.{refl}
 use borrow.Author.Needs.{needs}
 use Rattle.request.specs.Asks.{made}

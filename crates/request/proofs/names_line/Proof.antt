@@ -1,4 +1,4 @@
--- `request::names_line` meets its contract. Assumes nothing.
+-- `request::names_line` meets its contract.
 use mathlib.Core.Path.{sym, ap, _∙_}
 use borrow.Author.Needs.{needs}
 use Rattle.request.specs.Asks.{ofNames}

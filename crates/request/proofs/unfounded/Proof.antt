@@ -1,4 +1,4 @@
--- `request::unfounded` meets its contract. Assumes nothing.
+-- `request::unfounded` meets its contract.
 use mathlib.Core.Path.{_≡_, refl}
 use mathlib.Core.Bool.{true}
 use mathlib.Core.List.{[], _∷_}

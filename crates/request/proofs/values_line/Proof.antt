@@ -1,4 +1,4 @@
--- `request::values_line` meets its contract. Assumes nothing.
+-- `request::values_line` meets its contract.
 use mathlib.Core.Path.{refl, sym, _∙_}
 use borrow.Author.Needs.{needs}
 use borrow.Author.Tests.{eq-eqb, ne-eqb}

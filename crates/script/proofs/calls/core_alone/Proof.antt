@@ -1,8 +1,7 @@
 -- `script::calls::core_alone` meets its contract: the first field is unused, or the line spells nothing; `without_value` says the same of the second.
--- Assumes nothing.
 use mathlib.Core.Path.{sym}
 use borrow.Author.Needs.{needs}
-use Rattle.script.specs.Line.{unused}
+use Rattle.script.specs.Line.{withDash}
 use Rattle.script.proofs.Takes.{not-unused}
 use Rattle.script.proofs.calls.core_alone.Statement.{statement}
 use Rattle.script.proofs.calls.core_alone.Tie as tie
@@ -17,7 +16,7 @@ without-value-requires : tie.Need-without-value-requires
 without-value-requires c κs = search needs
 
 returns-2 : tie.Need-returns-2
-unfolding unused
+unfolding withDash
 returns-2 c = rw (c .before .enum-told .given .1) (c .without-value .ensures)
 
 pub core-alone-spec : {M : Type 1} → statement M

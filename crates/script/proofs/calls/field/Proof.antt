@@ -1,5 +1,4 @@
 -- `script::calls::field` meets its contract, by what `same` and `decimal::read` answer.
--- Assumes nothing.
 use mathlib.Core.Path.{sym, _∙_}
 use borrow.Author.Needs.{needs}
 use Rattle.script.specs.Line.{numbered, field}

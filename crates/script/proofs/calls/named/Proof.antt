@@ -1,5 +1,4 @@
 -- `script::calls::named` meets its contract, by what `same` answers.
--- Assumes nothing.
 use mathlib.Core.Path.{sym, _∙_}
 use borrow.Author.Needs.{needs}
 use Rattle.script.proofs.calls.named.Statement.{statement}

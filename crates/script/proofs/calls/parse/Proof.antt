@@ -1,5 +1,4 @@
 -- `script::calls::parse` meets its contract: each part is the field that the definition takes, and `spelt` says what they spell.
--- Assumes nothing.
 use mathlib.Core.Path.{sym, _∙_}
 use denote.Ref.{now}
 use borrow.Author.Needs.{needs}

@@ -1,8 +1,7 @@
 -- `script::calls::spelt` meets its contract: each arm is the definition's clause for its verb, with the numbers that were taken out.
--- Assumes nothing.
 use mathlib.Core.Path.{sym}
 use borrow.Author.Needs.{needs}
-use Rattle.script.specs.Line.{number, spelt}
+use Rattle.script.specs.Line.{withNumber, spelt}
 use Rattle.script.proofs.Takes.{no-number, no-core}
 use Rattle.script.proofs.calls.spelt.Statement.{statement}
 use Rattle.script.proofs.calls.spelt.Tie as tie
@@ -20,7 +19,7 @@ enum-known-card : tie.Need-enum-known-card
 enum-known-card c = search needs
 
 returns-2 : tie.Need-returns-2
-unfolding spelt number
+unfolding spelt withNumber
 returns-2 c =
     let core = c .before .before .before .before in
     rw (c .before .enum-told .given .1, core .core .given .1) (sym (no-number (core .before .before .args .card) _ (c .match3 .keys2)))
@@ -47,7 +46,7 @@ enum-known-card-2 : tie.Need-enum-known-card-2
 enum-known-card-2 c = search needs
 
 returns-3 : tie.Need-returns-3
-unfolding spelt number
+unfolding spelt withNumber
 returns-3 c =
     let core = c .before .before .before .before in
     rw (c .before .enum-told4 .given .1, core .core .given .1) (sym (no-number (core .before .before .args .card) _ (c .match4 .keys2)))
@@ -83,7 +82,7 @@ enum-told-9 : tie.Need-enum-told-9
 enum-told-9 c = search needs
 
 returns-4 : tie.Need-returns-4
-unfolding spelt number
+unfolding spelt withNumber
 returns-4 c =
     let card = c .before .before in
     rw (card .before .before .enum-told .given .1, card .before .before .before .before .before .core .given .1, card .card .given .1) (c .without-value .ensures)
@@ -92,11 +91,11 @@ returns-5 : tie.Need-returns-5
 returns-5 c = rw (c .before .enum-told2 .given .1, c .before .before .before .before .core .given .1) (c .release .ensures)
 
 returns-6 : tie.Need-returns-6
-unfolding spelt number
+unfolding spelt withNumber
 returns-6 c = rw (c .before .enum-told3 .given .1, c .before .before .before .before .core .given .1) (c .core-alone .ensures)
 
 returns-7 : tie.Need-returns-7
-unfolding spelt number
+unfolding spelt withNumber
 returns-7 c =
     let card = c .before .before in
     rw (card .before .before .enum-told4 .given .1, card .before .before .before .before .before .core .given .1, card .card2 .given .1) (c .without-value2 .ensures)
@@ -105,15 +104,15 @@ returns-8 : tie.Need-returns-8
 returns-8 c = rw (c .before .enum-told5 .given .1, c .before .before .before .before .core .given .1) (c .write .ensures)
 
 returns-9 : tie.Need-returns-9
-unfolding spelt number
+unfolding spelt withNumber
 returns-9 c = rw (c .before .enum-told6 .given .1, c .before .before .before .before .core .given .1) (c .core-alone2 .ensures)
 
 returns-10 : tie.Need-returns-10
-unfolding spelt number
+unfolding spelt withNumber
 returns-10 c = rw (c .before .enum-told7 .given .1, c .before .before .before .before .core .given .1) (c .core-alone3 .ensures)
 
 returns-11 : tie.Need-returns-11
-unfolding spelt number
+unfolding spelt withNumber
 returns-11 c = rw (c .before .enum-told8 .given .1, c .before .before .before .before .core .given .1) (c .core-alone4 .ensures)
 
 returns-12 : tie.Need-returns-12

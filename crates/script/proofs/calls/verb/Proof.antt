@@ -1,5 +1,4 @@
 -- `script::calls::verb` meets its contract: the first byte leaves one name, and of two that begin with `r` the length leaves one.
--- Assumes nothing.
 use mathlib.Core.Path.{_≡_, sym, _∙_}
 use mathlib.Core.List.{List, _∷_}
 use Prim.Native.Nat.{ℕ}

@@ -1,5 +1,4 @@
 -- `script::fields::after_field` meets its contract: the branch's test says which case of `afterField` holds.
--- Assumes nothing.
 use native.Mathlib.Omega.{arith}
 use borrow.Author.Needs.{needs}
 use borrow.Author.Tests.{le-leb, lt-leb}

@@ -1,5 +1,4 @@
 -- `script::fields::cut` meets its contract: the fourth field begins within the line and ends with it, or there are not four.
--- Assumes nothing.
 use native.Mathlib.Omega.{arith}
 use denote.Ref.{now}
 use borrow.Author.Needs.{needs}

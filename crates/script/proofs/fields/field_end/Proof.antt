@@ -1,5 +1,5 @@
 -- `script::fields::field_end` meets its contract. The loop's invariant: the field ends where it does from `i` on. The measure is what is
--- left of the line. Assumes nothing.
+-- left of the line.
 use mathlib.Core.Path.{_≡_, refl, sym, _∙_}
 use mathlib.Core.List.{List}
 use Prim.Native.Nat.{ℕ, _-_}

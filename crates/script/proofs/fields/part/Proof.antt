@@ -1,5 +1,4 @@
 -- `script::fields::part` meets its contract: the four fields stand before, between and after the three spaces.
--- Assumes nothing.
 use mathlib.Core.Path.{sym, ap}
 use mathlib.Core.List.{[]}
 use Prim.Native.Nat.{_+_, _-_}

@@ -1,5 +1,5 @@
 -- `script::fields::same` meets its contract. The loop's invariant: what is left of two slices of one length is the same where they are.
--- The measure is what is left. Assumes nothing.
+-- The measure is what is left.
 use mathlib.Core.Path.{_≡_, refl, sym, _∙_}
 use mathlib.Core.List.{List}
 use Prim.Native.Nat.{ℕ, _≤_, _-_}

@@ -1,5 +1,4 @@
 -- `script::heading::order` meets its contract: the four names all stand, or one is missing.
--- Assumes nothing.
 use mathlib.Core.Path.{_≡_, sym, ap}
 use mathlib.Core.Logic.{⊎-elim}
 use mathlib.Core.List.{List}

@@ -1,5 +1,5 @@
 -- `script::heading::place` meets its contract. The loop's invariant: the name's place is as many fields after `i` as among the fields from
--- `i` on. The measure is how many of the four are left. Assumes nothing.
+-- `i` on. The measure is how many of the four are left.
 use mathlib.Core.Path.{_≡_, sym, ap, _∙_}
 use mathlib.Core.Bool.{true, false}
 use mathlib.Core.List.{List, []}

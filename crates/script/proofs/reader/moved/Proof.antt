@@ -1,6 +1,5 @@
 -- `script::reader::moved` meets its contract: a walk of its MIR, by hand. The struct is taken apart, `after_field` is called on the slice and the number, and a struct is made anew of the slice and what it returns. All that the proof knows of `after_field` is that it meets its contract.
 -- The struct is Copy: what it owns is had three times. One copy is kept whole for the exit; of one, what line owns goes to the callee, beside the lifetime's token, which comes back; one, with the facts of the new number in the place of at's, is what the result owns.
--- Assumes nothing.
 use mathlib.Core.Path.{_≡_, refl, ap}
 use Prim.Native.Nat.{ℕ, _<_, _^_}
 use mathlib.Core.List.{[], _∷_}
