@@ -1,16 +1,20 @@
 // Runs case A of document 01 through the runner's doors, seven bytes at a time, and prints its listing. Before the last line ends it
-// hands in what does not fit, and prints the number of each refusal: nothing is lost by them.
+// hands in what does not fit, and prints the number of each refusal: nothing is lost by them. `piece_end` and `show` ask that
+// what they are told of is there.
 use libc::STDOUT_FILENO;
 use runner::Reading;
 ghost use Prim.Native.Nat.{_+_, _≤_, _<_};
 ghost use lib.ListN.{length};
 
-// The text of seven bytes, each of which may end a line.
-const ROOM: usize = 224;
+// How many bytes are fed at a time.
+const PIECE: usize = 7;
+
+// The text that they may need.
+const ROOM: usize = PIECE * runner::LINE_ROOM;
 
 fn main() {
-    let mut committed = [7u32; 64];
-    let mut pending = [7u32; 1024];
+    let mut committed = [7u32; runner::COMMITTED_WORDS];
+    let mut pending = [7u32; runner::PENDING_WORDS];
     let mut text = [0u8; ROOM];
     write(b"line answer value\n");
     let script =
@@ -37,7 +41,11 @@ fn piece_end(length: usize, at: usize) -> usize
     requires { ⌜ at < length ⌝ }
     ensures { λ r. ⌜ (at < r) × (r ≤ length) ⌝ }
 {
-    if length - at < 7 { length } else { at + 7 }
+    if length - at < PIECE {
+        length
+    } else {
+        at + PIECE
+    }
 }
 
 // Feeds one piece; prints what it adds, or its refusal.
@@ -62,8 +70,8 @@ fn end(reading: Reading, committed: &mut [u32], pending: &mut [u32], text: &mut 
 
 // What is not taken: a wrong table, too little room, and readings that no run leaves.
 fn refused(reading: Reading) {
-    let mut committed = [7u32; 64];
-    let mut pending = [7u32; 1024];
+    let mut committed = [7u32; runner::COMMITTED_WORDS];
+    let mut pending = [7u32; runner::PENDING_WORDS];
     let mut text = [0u8; ROOM];
     let mut short_committed = [7u32; 63];
     let mut short_pending = [7u32; 1023];

@@ -1,4 +1,4 @@
--- A listing that is put into the output piece by piece: what holds after each piece. Assumes nothing.
+-- A listing that is put into the output piece by piece: what holds after each piece.
 use mathlib.Core.Path.{_≡_, refl, sym, ap, subst, _∙_}
 use mathlib.Core.Bool.{Bool, true, false, cond}
 use mathlib.Core.List.{List, [], _++_, append-nil, append-assoc}
@@ -13,10 +13,10 @@ use Rattle.listing.specs.Text.{heading, placed, fitting, put}
 use Rattle.listing.proofs.Laws.{fitting-whole, put-whole, placed-whole, placed-length}
 use Rattle.runner.specs.declared.Reading.{Reading}
 use Rattle.request.specs.Asks.{mostLines}
-use Rattle.runner.specs.Listing.{listing, body}
-use Rattle.runner.specs.Kept.{next, rest, started, Fit}
+use Rattle.runner.specs.Listing.{rows, listed, listing}
+use Rattle.runner.specs.Kept.{listedFrom, rest, started, ReadingFits}
 use Rattle.runner.proofs.Laws.{start-fit, start-whole}
-use Rattle.runner.proofs.Bounds.{listing-short}
+use Rattle.runner.proofs.Bounds.{enough-any}
 
 -- `text` is listed, `total` bytes of it; it is the output's first part, if the output has room for the whole listing, and the bytes after
 -- it keep what they held
@@ -35,7 +35,7 @@ placed-long at text output = go (leb (at + length text) (length output)) refl
     go false e = unfold placed in rw e refl
 
 -- the heading stands in front; the loop begins with the output that has it
-pub heading-listed : (script out₀ out : List ℕ) → out ≡ placed 0 heading out₀ → Listed script out heading out 18 (body (lines script))
+pub heading-listed : (script out₀ out : List ℕ) → out ≡ placed 0 heading out₀ → Listed script out heading out 18 (listed (rows script))
 unfolding listing
 heading-listed script out₀ out e =
     record {
@@ -43,7 +43,7 @@ heading-listed script out₀ out e =
       long = refl;
       out-long = refl;
       filled = λ room.
-          let fits : 18 ≤ length out₀ = omega (arith, length-append heading (body (lines script)), room, ap length e, placed-long 0 heading out₀) in
+          let fits : 18 ≤ length out₀ = omega (arith, length-append heading (listed (rows script)), room, ap length e, placed-long 0 heading out₀) in
           let front = e ∙ placed-whole 0 heading out₀ fits in
           front ∙ ap (λ (x : List ℕ). heading ++ x) (sym (ap (drop 18) front ∙ drop-at heading (drop 18 out₀) 18 refl));
     }
@@ -85,11 +85,11 @@ piece-listed script out₀ text out total left piece left′ l e =
 pub total-small : (script out₀ text out : List ℕ) (total : ℕ) (left : List ℕ) → Listed script out₀ text out total left
     → total + length left ≤ 32 * (mostLines + 2)
 total-small script out₀ text out total left l =
-    omega (arith, listing-short script, l .long, ap length (l .whole), length-append text left)
+    omega (arith, enough-any script, l .long, ap length (l .whole), length-append text left)
 
 -- after `at` bytes of the script
 pub record Running (script out₀ out cs ps scratch : List ℕ) (total : ℕ) (r : Reading) (at : ℕ) : Type 0 where
-  pub fit : Fit r cs ps
+  pub fit : ReadingFits r cs ps
   pub within : at ≤ length script
   pub scratch-long : length scratch ≡ 16384
   pub text : List ℕ
@@ -156,7 +156,7 @@ running-starts script out₀ out cs ps scratch piece total r put e long new comm
     }
 
 module _ (script out₀ out cs ps scratch : List ℕ) (total : ℕ) (r : Reading) (at : ℕ) (run : Running script out₀ out cs ps scratch total r at) where
-  pub running-goes : (end : ℕ) (r′ : Reading) (cs′ ps′ scratch′ out′ : List ℕ) (k : ℕ) → at < end → end ≤ length script → Fit r′ cs′ ps′
+  pub running-goes : (end : ℕ) (r′ : Reading) (cs′ ps′ scratch′ out′ : List ℕ) (k : ℕ) → at < end → end ≤ length script → ReadingFits r′ cs′ ps′
       → length scratch′ ≡ 16384 → k ≤ 16384
       → ((bytes : List ℕ) → rest r cs ps (take (end - at) (drop at script) ++ bytes) ≡ take k scratch′ ++ rest r′ cs′ ps′ bytes)
       → out′ ≡ placed total (take k scratch′) out → Running script out₀ out′ cs′ ps′ scratch′ (total + k) r′ end
@@ -175,7 +175,7 @@ module _ (script out₀ out cs ps scratch : List ℕ) (total : ℕ) (r : Reading
 
   -- lines are read no more
   none : (bytes : List ℕ) → r .going ≡ false → rest r cs ps bytes ≡ []
-  unfolding rest next
+  unfolding rest listedFrom
   none bytes over = rw over refl
 
   -- then the rest of the script may be passed over

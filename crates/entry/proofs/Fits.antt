@@ -1,5 +1,4 @@
--- The listing fits the output, or is refused. The first run is lent no byte of the output: `part` is what it leaves of none. Assumes
--- nothing.
+-- The listing fits the output, or is refused. The first run is lent no byte of the output: `part` is what it leaves of none.
 use mathlib.Core.Path.{_≡_, refl, sym, ap, _∙_}
 use mathlib.Core.List.{List, [], _∷_, _++_}
 use Prim.Native.Nat.{ℕ, _≤_, _<_}
@@ -16,7 +15,7 @@ refused : (text out : List ℕ) → length out < length text → wholeOrNone tex
 unfolding wholeOrNone
 refused text out h = rw (lt-leb (length text) (length out) h) refl
 
-whole : (text out : List ℕ) → length text ≤ length out → wholeOrNone text out ≡ text
+pub whole : (text out : List ℕ) → length text ≤ length out → wholeOrNone text out ≡ text
 unfolding wholeOrNone
 whole text out h = rw (le-leb (length text) (length out) h) refl
 

@@ -1,4 +1,4 @@
--- How many lines a script has, and how many bytes are enough for so many. Assumes nothing.
+-- How many lines a script has, and how many bytes are enough for so many.
 use mathlib.Core.Path.{_≡_, refl, sym, ap, _∙_}
 use mathlib.Core.Bool.{Bool, true, false, cond}
 use mathlib.Core.List.{List, [], _∷_, _++_}
@@ -9,10 +9,13 @@ use lib.Dec.{eqb, leb}
 use lib.ListN.{length, take, drop, getD, length-take, length-drop, length-append, take-append-drop, drop-of-length-le}
 use lib.Seq.{drop-cons, drop-drop}
 use borrow.Author.Tests.{eq-eqb, ne-eqb, le-leb, lt-leb, leb-true, leb-false}
-use Rattle.script.specs.Pieces.{onto, pieces, ended, lines}
+use Rattle.script.specs.Pieces.{onto, pieces, withoutLastEmpty, lines}
 use Rattle.script.proofs.Laws.{some-piece}
 use Rattle.runner.specs.Listing.{listing}
-use Rattle.runner.proofs.Bounds.{enough}
+use Rattle.runner.proofs.Bounds.{enough, enough-any, not-empty}
+use Rattle.entry.specs.Fitting.{wholeOrNone}
+use Rattle.entry.specs.Enough.{Enough}
+use Rattle.entry.proofs.Fits.{whole}
 
 -- ---- a byte in front makes one piece more, and one line more, where it is a newline
 
@@ -38,12 +41,12 @@ pieces-one-more b bs = go (eqb b 10) _ _ (some-piece 10 bs)
     go false p ps e = rw e (omega arith)
 
 lines-one-more : (b x : ℕ) (bs : List ℕ) → length (lines (b ∷ x ∷ bs)) ≡ newline b + length (lines (x ∷ bs))
-unfolding lines ended pieces onto
+unfolding lines withoutLastEmpty pieces onto
 lines-one-more b x bs = rw (some-piece 10 bs) (go (eqb b 10) (eqb x 10) _ _)
   where
     go : (t u : Bool) (p : List ℕ) (ps : List (List ℕ))
-        → length (ended (cond t ([] ∷ cond u ([] ∷ p ∷ ps) (onto x (p ∷ ps))) (onto b (cond u ([] ∷ p ∷ ps) (onto x (p ∷ ps))))))
-        ≡ cond t 1 0 + length (ended (cond u ([] ∷ p ∷ ps) (onto x (p ∷ ps))))
+        → length (withoutLastEmpty (cond t ([] ∷ cond u ([] ∷ p ∷ ps) (onto x (p ∷ ps))) (onto b (cond u ([] ∷ p ∷ ps) (onto x (p ∷ ps))))))
+        ≡ cond t 1 0 + length (withoutLastEmpty (cond u ([] ∷ p ∷ ps) (onto x (p ∷ ps))))
     go true true p ps = omega arith
     go true false p ps = omega arith
     go false true p ps = omega arith
@@ -52,14 +55,26 @@ lines-one-more b x bs = rw (some-piece 10 bs) (go (eqb b 10) (eqb x 10) _ _)
 
 -- one byte, or none, is at most one line
 pub short : (bs : List ℕ) → length bs ≤ 1 → length (lines bs) ≤ 1
-unfolding lines ended pieces onto
+unfolding lines withoutLastEmpty pieces onto
 short [] h = omega arith
 short (x ∷ []) h = go (eqb x 10)
   where
-    go : (t : Bool) → length (ended (cond t ([] ∷ [] ∷ []) (onto x ([] ∷ [])))) ≤ 1
+    go : (t : Bool) → length (withoutLastEmpty (cond t ([] ∷ [] ∷ []) (onto x ([] ∷ [])))) ≤ 1
     go true = omega arith
     go false = omega arith
 short (x ∷ y ∷ bs) h = absurd (omega (arith, h))
+
+ended-short : (ps : List (List ℕ)) → length (withoutLastEmpty ps) ≤ length ps
+unfolding withoutLastEmpty
+ended-short [] = omega arith
+ended-short ([] ∷ []) = omega arith
+ended-short ((b ∷ bs) ∷ []) = omega arith
+ended-short (p ∷ q ∷ ps) = omega (arith, ended-short (q ∷ ps))
+
+-- there are no more lines than pieces, of which there is always one
+few-lines : (bs : List ℕ) → (1 ≤ length (pieces 10 bs)) × (length (lines bs) ≤ length (pieces 10 bs))
+unfolding lines
+few-lines bs = (omega (arith, ap length (some-piece 10 bs)), ended-short (pieces 10 bs))
 
 -- ---- the newlines of a block: n stand before the byte at i, and the rest has the others
 
@@ -134,6 +149,20 @@ enough-test bytes k some = go (leb k ((bytes - 18) / 29)) refl
     go : (b : Bool) → leb k ((bytes - 18) / 29) ≡ b → b ≡ leb (18 + 29 * k) bytes
     go true e = sym (le-leb (18 + 29 * k) bytes (omega (arith, some, leb-true k ((bytes - 18) / 29) e)))
     go false e = sym (lt-leb (18 + 29 * k) bytes (omega (arith, some, leb-false k ((bytes - 18) / 29) e)))
+
+-- with an output that is enough, the listing's length is the answer
+pub always-enough : (script output : List ℕ) (n : ℕ) → n ≡ length (wholeOrNone (listing script) output) → Enough script output n
+always-enough script output n count =
+    record {
+      by-lines = λ k some few room. fits (omega (arith, enough script k some few, room));
+      by-newlines = λ room.
+          let few = few-lines script in fits (omega (arith, enough script (length (pieces 10 script)) (few .0) (few .1), room));
+      for-any = λ room. fits (omega (arith, enough-any script, room));
+      not-empty = not-empty script;
+    }
+  where
+    fits : length (listing script) ≤ length output → n ≡ length (listing script)
+    fits room = count ∙ ap length (whole (listing script) output room)
 
 pub enough-room : (script : List ℕ) (k bytes : ℕ) → (1 ≤ k) × (length (lines script) ≤ k) → leb (18 + 29 * k) bytes ≡ true
     → length (listing script) ≤ bytes

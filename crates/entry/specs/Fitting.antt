@@ -1,4 +1,4 @@
--- What the C entry leaves in the lent output. Assumes nothing.
+-- What the C entry leaves in the lent output.
 use Prim.Native.Nat.{ℕ}
 use mathlib.Core.Bool.{cond}
 use mathlib.Core.List.{List, [], _++_}

@@ -1,2 +1,3 @@
--- The definitions that the contracts cite. Assumes nothing.
+-- The definitions that the contracts cite.
 pub mod Fitting
+pub mod Enough

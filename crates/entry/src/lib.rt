@@ -1,26 +1,39 @@
-// The C entry: a script in, its listing out (include/cards.h). Assumes nothing.
+// The C entry: a script in, its listing out (include/cards.h). `cards_run` has no condition; `newlines` and `chunk_end` beneath it have
+// one each, on lengths.
 use runner::Reading;
 use runner::inside;
 ghost use mathlib.Core.Path.{_≡_};
 ghost use mathlib.Core.Bool.{cond};
 ghost use mathlib.Core.List.{_++_};
-ghost use Prim.Native.Nat.{_+_, _*_, _≤_, _<_};
+ghost use Prim.Native.Nat.{_+_, _≤_, _<_};
 ghost use lib.Dec.{leb};
 ghost use lib.ListN.{length, drop};
+ghost use Rattle.decimal.specs.Bytes.{byte};
 ghost use Rattle.script.specs.Pieces.{pieces, lines};
 ghost use Rattle.runner.specs.Listing.{listing};
-ghost use Rattle.runner.specs.Runs.{EveryScript};
+ghost use Rattle.runner.specs.Runs.{ScriptRuns};
 ghost use Rattle.entry.specs.Fitting.{wholeOrNone, outputAfter};
+ghost use Rattle.entry.specs.Enough.{Enough, enoughFor};
 
-// How many bytes of the script are run at a time. Each may end a line, which takes up to 32 bytes of text.
+// How many bytes of the script are run at a time.
 const CHUNK: usize = 512;
+
+// How many bytes of text they may need: each may end a line, which takes up to 32.
+const TEXT: usize = CHUNK * runner::LINE_ROOM;
 
 // How many bytes of the script are counted at a time: a multiple of 32, for the compiler, whose newlines a byte can count.
 const BLOCK: usize = 224;
 
+// How many bytes the heading takes.
+const HEADING: usize = 18;
+
+// How many bytes are enough for any line of a listing.
+const LINE: usize = 29;
+
 // Lists the script over the first bytes of the output and answers how many bytes that is. A listing that is longer than the output is
-// refused (12): the answer is 0 and the output is untouched. The claim about whole runs holds of every script: of the calls after each
-// accepted setup, with the answers that are listed (runner's specs/Runs.antt).
+// refused (12): the answer is 0 and the output is untouched. An output of 18 bytes, and 29 for each line of the script, is enough, and one
+// of 29,000,047 for every script (specs/Enough.antt). The claim about whole runs holds of this script: of the calls from each accepted
+// setup to the next setup, with the answers that the listing has on their lines (runner's specs/Runs.antt).
 //
 // An output that is enough for any script of as many lines is filled at once; for another, the script is run twice, first to see how
 // long its listing is.
@@ -28,7 +41,8 @@ const BLOCK: usize = 224;
 pub extern "C" fn cards_run(script: &[u8], output: &mut [u8]) -> usize
     ensures count { λ r. ⌜ r ≡ length (wholeOrNone (listing (now (script .entry))) (now (output .entry))) ⌝ }
     ensures bytes { λ _. ⌜ now (output .exit) ≡ outputAfter (listing (now (script .entry))) (now (output .entry)) ⌝ }
-    ensures runs { λ _. ⌜ EveryScript ⌝ }
+    ensures enough { λ r. ⌜ Enough (now (script .entry)) (now (output .entry)) r ⌝ }
+    ensures runs { λ _. ⌜ ScriptRuns (now (script .entry)) ⌝ }
 {
     if is_enough(output.len(), lines_of(script)) {
         return list_into(script, output);
@@ -60,7 +74,7 @@ fn lines_of(script: &[u8]) -> usize
 // How many newlines a block has: one fewer than the pieces between them. Counted in a byte, so that the compiler compares 16 at a time.
 fn newlines(block: &[u8]) -> u8
     requires { ⌜ length (now block) < 256 ⌝ }
-    ensures { λ r. ⌜ (length (pieces 10 (now (block .entry))) ≡ r + 1) × (r ≤ length (now (block .entry))) ⌝ }
+    ensures { λ r. ⌜ (length (pieces (byte "\n") (now (block .entry))) ≡ r + 1) × (r ≤ length (now (block .entry))) ⌝ }
 {
     let mut n: u8 = 0;
     let mut i = 0;
@@ -75,12 +89,12 @@ fn newlines(block: &[u8]) -> u8
 
 // Whether so many bytes are enough for the listing of any script of that many lines: 18, and 29 for each line.
 fn is_enough(bytes: usize, lines: usize) -> bool
-    ensures { λ r. ⌜ r ≡ leb (18 + 29 * lines) bytes ⌝ }
+    ensures { λ r. ⌜ r ≡ leb (enoughFor lines) bytes ⌝ }
 {
-    if bytes < 18 {
+    if bytes < HEADING {
         return false;
     }
-    lines <= (bytes - 18) / 29
+    lines <= (bytes - HEADING) / LINE
 }
 
 // Where the chunk that begins at `at` ends.
@@ -108,9 +122,9 @@ fn list_into(script: &[u8], output: &mut [u8]) -> usize
     ensures count { λ r. ⌜ r ≡ length (listing (now (script .entry))) ⌝ }
     ensures bytes { λ r. ⌜ (r ≤ length (now (output .entry)) → now (output .exit) ≡ listing (now (script .entry)) ++ drop r (now (output .entry))) ⌝ }
 {
-    let mut committed = [0u32; 64];
-    let mut pending = [0u32; 1024];
-    let mut text = [0u8; 16384];
+    let mut committed = [0u32; runner::COMMITTED_WORDS];
+    let mut pending = [0u32; runner::PENDING_WORDS];
+    let mut text = [0u8; TEXT];
     let mut total = listing::put_heading(&mut text);
     listing::put_bytes(output, 0, &text[..total]);
     let mut reading = Reading::start();

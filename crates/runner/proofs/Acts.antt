@@ -1,5 +1,5 @@
 -- What a call after setup leaves, where it is lent the first words of the two tables: the world of the rule, with a line of the listing
--- that says the rule's answer. Assumes nothing.
+-- that says the rule's answer.
 use mathlib.Core.Path.{_≡_, refl, sym, ap, subst, _∙_}
 use mathlib.Core.Logic.{inr}
 use mathlib.Core.Bool.{Bool, true, false, cond}
@@ -17,7 +17,7 @@ use Rattle.machine.proofs.Case.{case-of}
 use Rattle.machine.specs.Inside.{WellFormedWorld}
 use Rattle.machine.proofs.Sound.Keeps.{keeps-good}
 use Rattle.listing.specs.Text.{said}
-use Rattle.runner.specs.Kept.{held, over, Held}
+use Rattle.runner.specs.Kept.{held, overlaid, BlankOrSound}
 use Rattle.core.specs.declared.Answer.{Answer}
 use Rattle.runner.proofs.Over.{over-own, over-front}
 
@@ -70,10 +70,10 @@ abbrev pub Done : List ℕ → List ℕ → Result → Outcome → List ℕ → 
 Done cs₀ ps₀ expected r cs ps =
     (said (r .answer) ≡ said (expected .answer))
     × ((held (r .machine) cs ps ≡ expected .world)
-    × (Held (r .machine) cs ps × ((cs ≡ over (expected .world .committed) cs₀) × (ps ≡ over (expected .world .pending) ps₀))))
+    × (BlankOrSound (r .machine) cs ps × ((cs ≡ overlaid (expected .world .committed) cs₀) × (ps ≡ overlaid (expected .world .pending) ps₀))))
 
 -- no call is made: the record and the tables stay
-pub none-done : (m : Machine) (cs ps : List ℕ) → Held m cs ps → (a : Answer)
+pub none-done : (m : Machine) (cs ps : List ℕ) → BlankOrSound m cs ps → (a : Answer)
     → Done cs ps (record { answer = a; world = held m cs ps }) (record { machine = m; answer = a }) cs ps
 none-done m cs ps h a = (refl, (refl, (h, (sym (over-own (m .objects) cs), sym (over-own (m .cores * m .objects) ps)))))
 
@@ -97,7 +97,7 @@ module _ (m : Machine) (cs ps : List ℕ) (g : WellFormedWorld (held m cs ps)) (
             record {
               committed-long = length-front cs cs′ (m .objects) cl′ ∙ cl;
               pending-long = length-front ps ps′ (m .cores * m .objects) pl′ ∙ pl;
-              blank-or-good = inr (subst WellFormedWorld (sym front) g′);
+              blank-or-well-formed = inr (subst WellFormedWorld (sym front) g′);
             },
             (
               over-front (m .objects) cs cs′ _ cl′ (ap (λ (x : World). x .committed) (f .world-is ∙ alike .1)),

@@ -1,4 +1,4 @@
--- What a line asks for, carried out: the answer that is listed, the world after it, and how lines are read on. Assumes nothing.
+-- What a line asks for, carried out: the answer that is listed, the world after it, and how lines are read on.
 use mathlib.Core.Path.{_≡_, refl, sym, ap, _∙_}
 use mathlib.Core.Bool.{Bool, true, false, not, cond, true≢false}
 use mathlib.Core.List.{List, _∷_}
@@ -26,7 +26,7 @@ use Rattle.script.specs.Line.{names, spells}
 use Rattle.request.specs.declared.Asked.{Asked}
 use Rattle.request.specs.declared.Asked.the-variants as Asked
 use Rattle.request.specs.Asks.{mostLines, ofNames, made, unfounded, ofLine, asks}
-use Rattle.runner.specs.Listing.{nothing, Anew, Asks, request, met, called, answered}
+use Rattle.runner.specs.Listing.{nothing, Anew, Asks, request, met, answered}
 
 -- whether an answer is listed
 abbrev pub lists : Asked → Bool
@@ -84,7 +84,7 @@ blank-unsound : Sound.sound blank ≡ false
 unfolding Sound.sound Sound.inRange
 blank-unsound = refl
 
-unfounded-called : (call : Call) → outcome nothing (unfounded call) ≡ called nothing call
+unfounded-called : (call : Call) → outcome nothing (unfounded call) ≡ met nothing (request call)
 unfolding unfounded met request Rule.rule Rule.release Rule.begin Rule.read Rule.write Rule.commit Rule.giveUp Rule.finish Rule.accessRefusal Rule.commitRefusal
 unfounded-called (Call.Setup n d) = refl
 unfounded-called (Call.Release c number deadline) = ap (Rule.unlent nothing) (unsound-unless (Sound.sound blank) blank-unsound blank _ _)
@@ -97,7 +97,7 @@ unfounded-called (Call.Finish c) = ap (Rule.unlent nothing) (unsound-unless (Sou
 
 -- ---- a line of values
 
-made-called : (w : World) (call : Call) → outcome w (made call) ≡ called w call
+made-called : (w : World) (call : Call) → outcome w (made call) ≡ met w (request call)
 unfolding made request
 made-called w (Call.Setup n d) = refl
 made-called w (Call.Release c number deadline) = refl
@@ -114,7 +114,7 @@ unfolding ofLine answered
 line-answered cores w none Line.Malformed = refl
 line-answered cores w none (Line.Spells call) = go (eqb cores 0) refl
   where
-    go : (b : Bool) → eqb cores 0 ≡ b → outcome w (cond b (unfounded call) (made call)) ≡ called w call
+    go : (b : Bool) → eqb cores 0 ≡ b → outcome w (cond b (unfounded call) (made call)) ≡ met w (request call)
     go true e = rw (none (eqb-true cores 0 e)) (unfounded-called call)
     go false e = made-called w call
 

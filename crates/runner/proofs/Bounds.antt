@@ -1,4 +1,4 @@
--- How many bytes are always enough for a listing: 18, and 29 for each line of the script. Assumes nothing.
+-- How many bytes are always enough for a listing: 18, and 29 for each line of the script; 29,000,047 for every script.
 use mathlib.Core.Path.{_≡_, refl}
 use mathlib.Core.Bool.{Bool, true, false, cond}
 use mathlib.Core.List.{List, [], _∷_, _++_}
@@ -19,7 +19,7 @@ use Rattle.script.specs.Line.{names, spells}
 use Rattle.listing.specs.Text.{line, said}
 use Rattle.listing.proofs.Laws.{word-short, value-short}
 use Rattle.request.specs.Asks.{mostLines}
-use Rattle.runner.specs.Listing.{nothing, answered, listed, named, body, listing}
+use Rattle.runner.specs.Listing.{nothing, answered, Row, unread, valueRows, rowsAfter, rowsOf, listed, listing}
 
 -- a number below 10 to the power of k has at most k digits, for k from 1 on
 few-digits : (k p n : ℕ) → n < 10 ^ suc k → length (spellingIn p n) ≤ suc k
@@ -40,44 +40,58 @@ line-bytes n a h = simp length-append (omega (arith, few-digits 6 10 n (omega (a
 
 -- at most 29 bytes for each line, of those that there are and of those that are read from line n on
 listed-bytes : (at : Columns) (w : World) (n : ℕ) (ls : List (List ℕ)) → n ≤ mostLines + 1
-    → (length (listed at w n ls) ≤ 29 * length ls) × (length (listed at w n ls) ≤ 29 * (mostLines + 2 - n))
-unfolding listed
+    → (length (listed (valueRows at w n ls)) ≤ 29 * length ls) × (length (listed (valueRows at w n ls)) ≤ 29 * (mostLines + 2 - n))
+unfolding listed valueRows
 listed-bytes at w n [] h = (omega arith, omega arith)
 listed-bytes at w n (l ∷ ls) h =
     go (ltb mostLines n) refl (λ few. listed-bytes at (answered w (spells at l) .world) (n + 1) ls (omega (arith, few)))
   where
-    more : List ℕ
-    more = listed at (answered w (spells at l) .world) (n + 1) ls
+    here : Row
+    here = record { number = n; spelt = spells at l; answer = answered w (spells at l) .answer }
+
+    more : List Row
+    more = valueRows at (answered w (spells at l) .world) (n + 1) ls
 
     go : (b : Bool) → ltb mostLines n ≡ b
-        → (n ≤ mostLines → (length more ≤ 29 * length ls) × (length more ≤ 29 * (mostLines + 2 - (n + 1))))
-        → (length (cond b (line n (Refused 11)) (line n (answered w (spells at l) .answer) ++ more)) ≤ 29 * suc (length ls))
-        × (length (cond b (line n (Refused 11)) (line n (answered w (spells at l) .answer) ++ more)) ≤ 29 * (mostLines + 2 - n))
+        → (n ≤ mostLines → (length (listed more) ≤ 29 * length ls) × (length (listed more) ≤ 29 * (mostLines + 2 - (n + 1))))
+        → (length (listed (cond b (unread n ∷ []) (here ∷ more))) ≤ 29 * suc (length ls))
+        × (length (listed (cond b (unread n ∷ []) (here ∷ more))) ≤ 29 * (mostLines + 2 - n))
     go true e rest =
         let one = line-bytes n (Refused 11) h in
-        (omega (arith, one), omega (arith, h, one))
+        simp length-append ((omega (arith, one), omega (arith, h, one)))
     go false e rest =
         let few = ltb-false mostLines n e in
         let one = line-bytes n (answered w (spells at l) .answer) h in
         simp length-append ((omega (arith, one, rest few .0), omega (arith, few, one, rest few .1)))
 
-body-bytes : (ls : List (List ℕ)) (k : ℕ) → 1 ≤ k → length ls ≤ k → (length (body ls) ≤ 29 * k) × (length (body ls) ≤ 29 * (mostLines + 1))
-unfolding body
-body-bytes [] k some h = let one = line-bytes 1 (Refused 11) (omega arith) in (omega (arith, some, one), omega (arith, one))
+-- `1 refused 11` alone
+refused-bytes : (k : ℕ) → 1 ≤ k → (length (listed (unread 1 ∷ [])) ≤ 29 * k) × (length (listed (unread 1 ∷ [])) ≤ 29 * (mostLines + 1))
+unfolding listed
+refused-bytes k some =
+    let one = line-bytes 1 (Refused 11) (omega arith) in simp length-append ((omega (arith, some, one), omega (arith, one)))
+
+body-bytes : (ls : List (List ℕ)) (k : ℕ) → 1 ≤ k → length ls ≤ k
+    → (length (listed (rowsOf ls)) ≤ 29 * k) × (length (listed (rowsOf ls)) ≤ 29 * (mostLines + 1))
+unfolding rowsOf rowsAfter
+body-bytes [] k some h = refused-bytes k some
 body-bytes (l ∷ ls) k some h = go (names l)
   where
-    go : (x : Names) → (length (named x ls) ≤ 29 * k) × (length (named x ls) ≤ 29 * (mostLines + 1))
-    go (Names.Order at) =
-        unfold named in let all = listed-bytes at nothing 2 ls (omega arith) in (omega (arith, h, all .0), omega (arith, all .1))
-    go Names.Malformed = unfold named in let one = line-bytes 1 (Refused 11) (omega arith) in (omega (arith, some, one), omega (arith, one))
+    go : (x : Names) → (length (listed (rowsAfter x ls)) ≤ 29 * k) × (length (listed (rowsAfter x ls)) ≤ 29 * (mostLines + 1))
+    go (Names.Order at) = let all = listed-bytes at nothing 2 ls (omega arith) in (omega (arith, h, all .0), omega (arith, all .1))
+    go Names.Malformed = refused-bytes k some
 
 -- for a script of at most k lines, an empty one counted as one line, 18 + 29 × k bytes are enough
 pub enough : (script : List ℕ) (k : ℕ) → 1 ≤ k → length (lines script) ≤ k → length (listing script) ≤ 18 + 29 * k
 unfolding listing
 enough script k some few = simp length-append (omega (arith, body-bytes (lines script) k some few .0))
 
--- and for any script
-pub listing-short : (script : List ℕ) → length (listing script) ≤ 32 * (mostLines + 2)
+-- and for any script 29,000,047
+pub enough-any : (script : List ℕ) → length (listing script) ≤ 29000047
 unfolding listing
-listing-short script =
+enough-any script =
     simp length-append (omega (arith, body-bytes (lines script) (1 + length (lines script)) (omega arith) (omega arith) .1))
+
+-- no listing is empty
+pub not-empty : (script : List ℕ) → 0 < length (listing script)
+unfolding listing
+not-empty script = simp length-append (omega arith)

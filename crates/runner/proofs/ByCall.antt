@@ -1,4 +1,4 @@
--- What a request of a script leaves, by the promise of the function that carries it out. Assumes nothing.
+-- What a request of a script leaves, by the promise of the function that carries it out.
 use mathlib.Core.Path.{_≡_, ap}
 use mathlib.Core.List.{List, _++_}
 use Prim.Native.Nat.{ℕ, _*_}

@@ -1,4 +1,5 @@
--- What the doors do not refuse is fit, and what is fit they do not refuse. Assumes nothing.
+-- What the doors do not refuse is fit, and what is fit they do not refuse. For readers: `not-refused` and `fit-taken`, that what `start` gives
+-- and `feed` leaves is taken again, as it is.
 use mathlib.Core.Path.{_≡_, refl, sym, ap, subst, _∙_}
 use mathlib.Core.Logic.{_⊎_, inl, inr, ⊎-elim}
 use mathlib.Core.Bool.{Bool, true, false, not, cond, _&&_, _||_, true≢false}
@@ -19,8 +20,8 @@ use Rattle.machine.proofs.Sound.Standing.{Standing, standing}
 use Rattle.script.specs.Pieces.{free}
 use Rattle.runner.specs.declared.Reading.{Reading}
 use Rattle.request.specs.Asks.{mostLines}
-use Rattle.runner.specs.Kept.{held, begun, Fit}
-use Rattle.runner.specs.Doors.{readable, cleared, refusal}
+use Rattle.runner.specs.Kept.{held, unfinished, ReadingFits}
+use Rattle.runner.specs.Doors.{readable, asTaken, refusal}
 use Rattle.runner.proofs.Setups.{few-words}
 
 -- ---- a newline among bytes, looked for one by one
@@ -93,14 +94,14 @@ module _ (r : Reading) where
     some-line : ltb 0 (r .number) ≡ true
     lines-few : few-lines ≡ true
     bytes-few : leb (r .length) 65 ≡ true
-    no-newline : free 10 (begun r) ≡ true
+    no-newline : free 10 (unfinished r) ≡ true
     machine-own : own-machine ≡ true
 
   passed : readable r ≡ true → Passed
   unfolding readable
   passed e =
       let four = both _ own-machine e in
-      let three = both _ (free 10 (begun r)) (four .0) in
+      let three = both _ (free 10 (unfinished r)) (four .0) in
       let two = both _ (leb (r .length) 65) (three .0) in
       let one = both (ltb 0 (r .number)) few-lines (two .0) in
       record { some-line = one .0; lines-few = one .1; bytes-few = two .1; no-newline = three .1; machine-own = four .1 }
@@ -128,15 +129,15 @@ module _ (r : Reading) where
           formed = formed;
         }
 
-    passed-fit : Fit (cleared r) cs ps
-    unfolding cleared
+    passed-fit : ReadingFits (asTaken r) cs ps
+    unfolding asTaken
     passed-fit = go (eqb (r .machine .cores) 0) refl
       where
         fit : (m : Machine) → (m ≡ blank) ⊎ WellFormedWorld (held m cs ps) → (r .number ≡ 1 → m ≡ blank)
-            → Fit (record { going = r .going; columns = r .columns; number = r .number; line = r .line; length = r .length; machine = m }) cs ps
+            → ReadingFits (record { going = r .going; columns = r .columns; number = r .number; line = r .line; length = r .length; machine = m }) cs ps
         fit m h first =
             record {
-              holds = record { committed-long = committed; pending-long = pending; blank-or-good = h };
+              holds = record { committed-long = committed; pending-long = pending; blank-or-well-formed = h };
               line-long = long;
               few-bytes = leb-true (r .length) 65 (p .bytes-few);
               no-newline = p .no-newline;
@@ -146,7 +147,7 @@ module _ (r : Reading) where
             }
 
         go : (z : Bool) → eqb (r .machine .cores) 0 ≡ z
-            → Fit (cond z (record { going = r .going; columns = r .columns; number = r .number; line = r .line; length = r .length; machine = blank }) r) cs ps
+            → ReadingFits (cond z (record { going = r .going; columns = r .columns; number = r .number; line = r .line; length = r .length; machine = blank }) r) cs ps
         go true i = fit blank (inl refl) (λ e. refl)
         go false i =
             let later = both (ltb 1 (r .number)) (sound (r .machine)) (either _ _ i (p .machine-own)) .0 in
@@ -154,14 +155,14 @@ module _ (r : Reading) where
 
 -- what is not refused is fit
 pub taken-fit : (r : Reading) (cs ps : List ℕ) (bytes room : ℕ) → Formed (r .machine) × (length (r .line) ≡ 65)
-    → refusal r (length cs) (length ps) bytes room ≡ 0 → Fit (cleared r) cs ps × (32 * bytes ≤ room)
+    → refusal r (length cs) (length ps) bytes room ≡ 0 → ReadingFits (asTaken r) cs ps × (32 * bytes ≤ room)
 taken-fit r cs ps bytes room formed e =
     let t = taking r (length cs) (length ps) bytes room e in
     (passed-fit r cs ps (formed .0) (formed .1) (passed r (t .sound-reading)) (t .committed-long) (t .pending-long), t .enough)
 
 -- ---- what is fit is not refused
 
-module _ (r : Reading) (cs ps : List ℕ) (f : Fit r cs ps) where
+module _ (r : Reading) (cs ps : List ℕ) (f : ReadingFits r cs ps) where
   no-cores : r .machine ≡ blank → eqb (r .machine .cores) 0 ≡ true
   no-cores b = eq-eqb (r .machine .cores) 0 (ap (λ (m : Machine). m .cores) b)
 
@@ -184,7 +185,7 @@ module _ (r : Reading) (cs ps : List ℕ) (f : Fit r cs ps) where
   machine-fits : own-machine r ≡ true
   machine-fits =
       ⊎-elim (λ b. rw (no-cores b) refl)
-      (λ g. rw (some-cores g, lt-ltb 1 (r .number) (later g), g .world-sound .is-sound) refl) (f .holds .blank-or-good)
+      (λ g. rw (some-cores g, lt-ltb 1 (r .number) (later g), g .world-sound .is-sound) refl) (f .holds .blank-or-well-formed)
 
   fit-readable : readable r ≡ true
   unfolding readable
@@ -208,9 +209,9 @@ module _ (r : Reading) (cs ps : List ℕ) (f : Fit r cs ps) where
       ) refl
 
   -- and is taken as it is
-  pub fit-cleared : cleared r ≡ r
-  unfolding cleared
-  fit-cleared =
+  pub fit-taken : asTaken r ≡ r
+  unfolding asTaken
+  fit-taken =
       ⊎-elim
       (λ b.
       rw (no-cores b)
@@ -218,4 +219,4 @@ module _ (r : Reading) (cs ps : List ℕ) (f : Fit r cs ps) where
       (λ (m : Machine).
       record { going = r .going; columns = r .columns; number = r .number; line = r .line; length = r .length; machine = m })
       (sym b)))
-      (λ g. rw (some-cores g) refl) (f .holds .blank-or-good)
+      (λ g. rw (some-cores g) refl) (f .holds .blank-or-well-formed)

@@ -1,23 +1,29 @@
--- Listings, each by computation: document 01's cases A, K and L, and scripts at the edges. Assumes nothing.
+-- Listings, and the calls of two runs, by computation: document 01's cases A, K and L, and scripts at the edges.
 use mathlib.Core.Path.{_≡_, refl}
 use mathlib.Core.List.{List, [], _∷_, _++_, map, flatten}
 use Prim.Native.Nat.{ℕ}
+use lib.ListN.{drop}
 use Prim.Native.Char.{code}
 use Prim.Native.String.{String, [] as no-text, _∷_ as _then_}
 use Rattle.objset.specs.Objset.{has, collect, some, each, none, added, joined, meeting, below}
 use Rattle.decimal.specs.Spelling.{spelling, spellingIn}
-use Rattle.decimal.specs.Reading.{allDigits, noLeadingZero, valueAfter, isNumber, reads}
+use Rattle.decimal.specs.Reading.{allDigits, noLeadingZero, valueAfter, isNumber, readsAs}
 use Rattle.machine.specs.Record.{tally}
 use Rattle.core.specs.Parts.{least, running}
 use Rattle.machine.specs.Sound.{inRange, setsWithin, ownerListed, idleClear, zombieEmpty, fewJobs, unusedJobs, lackedCores, lackedObjects, ownerFirst, ticketsDiffer, ticketsGiven, ticketsCounted, versionsBounded, smallerTickets, abortsBounded, sound}
 use Rattle.core.specs.Calls.{first}
+use Rattle.machine.specs.Rule as Rule
 use Rattle.machine.specs.Rule.{unless, unlessLent, setup, released, release, begun, begin, setBackTold, accessRefusal, valueRead, valued, read, written, write, contender, blocked, leastOf, cleared, changed, through, commitRefusal, commit, ended, giveUp, finished, finish, rule}
 use Rattle.core.specs.Life.{struckBy}
+use Rattle.core.specs.declared.Answer.{Answer}
+use Rattle.core.specs.declared.Answer.the-variants.{Running, Begun, Written, Committed, Refused}
+use Rattle.machine.specs.Words.{Event}
 use Rattle.script.specs.Pieces as Pieces
 use Rattle.script.specs.Pieces.{onto, pieces, lines, same}
-use Rattle.script.specs.Line.{fields, place, ordered, names, verb, numbered, field, number, unused, spelt, meant, spells}
+use Rattle.script.specs.Line.{fields, place, ordered, names, verb, numbered, field, withNumber, withDash, spelt, meant, spells}
 use Rattle.listing.specs.Text.{said, line}
-use Rattle.runner.specs.Listing.{setUp, met, request, answered, listed, named, body, listing}
+use Rattle.runner.specs.Listing.{setUp, met, request, answered, valueRows, rowsAfter, rowsOf, rows, listed, listing}
+use Rattle.runner.specs.Runs.{anew, endsRun, eventOf, event, events}
 
 -- the bytes of a text, whose characters are all below 128
 bytes : String → List ℕ
@@ -92,6 +98,22 @@ table =
     ∷ whole "value card call core\n- 2 setup 1\n" "line answer value\n2 ready -\n"
     ∷ []
 
+-- ---- the calls of a run, from an accepted setup to the next setup, newest first
+
+-- a refused call is one of them, a line that is no call is not, and a setup ends them, the refused one too
+twoRuns : String
+twoRuns = "call core card value\nsetup 1 1 -\nbegin 0 - -\nrelease 0 7 90\nbegin 0 - -\nfly 0 - -\nwrite 0 0 5\ncommit 0 - -\nsetup 17 1 -\nbegin 0 - -\nsetup 1 1 -\nfinish 0 - -\n"
+
+abbrev did : Rule.Call → Answer → Event
+did call answer = record { call = call; answer = answer }
+
+computed : (map (λ row. listing (row .0)) table ≡ map (λ row. row .1) table)
+    × (map (λ n. events [] (drop n (rows (bytes twoRuns)))) (1 ∷ 10 ∷ [])
+    ≡ (did (Rule.Commit 0) (Committed 0) ∷ did (Rule.Write 0 0 5) Written ∷ did (Rule.Begin 0) (Begun 0)
+    ∷ did (Rule.Release 0 7 90) Running ∷ did (Rule.Begin 0) (Refused 7) ∷ [])
+    ∷ (did (Rule.Finish 0) (Refused 7) ∷ []) ∷ [])
+unfolding table twoRuns events endsRun anew event eventOf byLine whole caseA caseK caseL ends bytes flatten listing listed rowsOf rowsAfter valueRows answered met request setUp lines Pieces.withoutLastEmpty pieces onto same names ordered place spells meant fields verb field numbered withNumber withDash spelt readsAs isNumber allDigits noLeadingZero valueAfter spelling spellingIn line said rule setup first unless unlessLent released release begun begin setBackTold accessRefusal valueRead valued read written write contender blocked leastOf struckBy cleared changed through commitRefusal commit ended giveUp finished finish tally least running inRange setsWithin ownerListed idleClear zombieEmpty fewJobs unusedJobs lackedCores lackedObjects ownerFirst ticketsDiffer ticketsGiven ticketsCounted versionsBounded smallerTickets abortsBounded sound has collect some each none added joined meeting below
+computed = (refl, refl)
+
 each-listing : map (λ row. listing (row .0)) table ≡ map (λ row. row .1) table
-unfolding table byLine whole caseA caseK caseL ends bytes flatten listing body named listed answered met request setUp lines Pieces.ended pieces onto same names ordered place spells meant fields verb field numbered number unused spelt reads isNumber allDigits noLeadingZero valueAfter spelling spellingIn line said rule setup first unless unlessLent released release begun begin setBackTold accessRefusal valueRead valued read written write contender blocked leastOf struckBy cleared changed through commitRefusal commit ended giveUp finished finish tally least running inRange setsWithin ownerListed idleClear zombieEmpty fewJobs unusedJobs lackedCores lackedObjects ownerFirst ticketsDiffer ticketsGiven ticketsCounted versionsBounded smallerTickets abortsBounded sound has collect some each none added joined meeting below
-each-listing = refl
+each-listing = computed .0

@@ -1,4 +1,4 @@
--- The runner's loop over a chunk: what holds after each byte, and how each kind of byte keeps it. Assumes nothing.
+-- The runner's loop over a chunk: what holds after each byte, and how each kind of byte keeps it.
 use mathlib.Core.Path.{_≡_, refl, sym, ap, ap₂, subst, _∙_}
 use mathlib.Core.Bool.{Bool, true, false, cond, not, _&&_, true≢false}
 use mathlib.Core.List.{List, [], _∷_, _++_, append-nil, append-assoc}
@@ -22,7 +22,7 @@ use Rattle.request.specs.declared.Asked.{Asked}
 use Rattle.request.specs.declared.Asked.the-variants as Asked
 use Rattle.request.specs.Asks.{mostLines, asks}
 use Rattle.runner.specs.Listing.{nothing}
-use Rattle.runner.specs.Kept.{held, next, begun, rest, Held, Fit, State, state, pastLine, after, fed}
+use Rattle.runner.specs.Kept.{held, listedFrom, unfinished, rest, BlankOrSound, ReadingFits, KeptState, state, pastLine, afterByte, fed}
 use Rattle.runner.proofs.Asking.{lists, goes, ordered, outcome}
 use Rattle.runner.proofs.LineLaws.{byte-lost, line-said, text, Leads, line-leads}
 use Rattle.runner.proofs.Acts.{Done, none-done}
@@ -46,7 +46,7 @@ one-more n = omega arith
 -- after i bytes of the chunk: what is written and what is still to be listed make up what was to be listed at first, and the output's
 -- other bytes keep what they held; what the whole chunk leaves is what its other bytes will leave of what is kept by then
 pub record Feeding (r₀ : Reading) (cs₀ ps₀ out₀ chunk : List ℕ) (r : Reading) (cs ps out : List ℕ) (written i : ℕ) : Type 0 where
-  pub fit : Fit r cs ps
+  pub fit : ReadingFits r cs ps
   pub within : i ≤ length chunk
   pub room : written ≤ 32 * i
   pub out-long : length out ≡ length out₀
@@ -54,7 +54,7 @@ pub record Feeding (r₀ : Reading) (cs₀ ps₀ out₀ chunk : List ℕ) (r : R
   pub after : drop written out ≡ drop written out₀
   pub kept : fed (state r₀ cs₀ ps₀) chunk ≡ fed (state r cs ps) (drop i chunk)
 
-pub feeding-starts : (r : Reading) (cs ps out chunk : List ℕ) → Fit r cs ps → Feeding r cs ps out chunk r cs ps out 0 0
+pub feeding-starts : (r : Reading) (cs ps out chunk : List ℕ) → ReadingFits r cs ps → Feeding r cs ps out chunk r cs ps out 0 0
 feeding-starts r cs ps out chunk f =
     record { fit = f; within = omega arith; room = omega arith; out-long = refl; listed = λ bytes. refl; after = refl; kept = refl }
 
@@ -68,15 +68,15 @@ module _ (r₀ : Reading) (cs₀ ps₀ out₀ chunk : List ℕ) (r : Reading) (c
   next-byte bytes = ap (λ (x : List ℕ). x ++ bytes) (drop-cons chunk i 0 h ∙ ap (λ (n : ℕ). b ∷ drop n chunk) (one-more i))
 
   -- the byte leaves this
-  kept-on : (s : State) → after (state r cs ps) b ≡ s → fed (state r₀ cs₀ ps₀) chunk ≡ fed s (drop (i + 1) chunk)
+  kept-on : (s : KeptState) → afterByte (state r cs ps) b ≡ s → fed (state r₀ cs₀ ps₀) chunk ≡ fed s (drop (i + 1) chunk)
   unfolding fed
   kept-on s e =
       f .kept ∙ ap (fed (state r cs ps)) (drop-cons chunk i 0 h ∙ ap (λ (n : ℕ). b ∷ drop n chunk) (one-more i))
-      ∙ ap (λ (x : State). fed x (drop (i + 1) chunk)) e
+      ∙ ap (λ (x : KeptState). fed x (drop (i + 1) chunk)) e
 
   -- the output stays, and a reading that has the same bytes to come
-  stays : (r′ : Reading) → Fit r′ cs ps
-      → ((bytes : List ℕ) → rest r cs ps (b ∷ bytes) ≡ rest r′ cs ps bytes) → after (state r cs ps) b ≡ state r′ cs ps
+  stays : (r′ : Reading) → ReadingFits r′ cs ps
+      → ((bytes : List ℕ) → rest r cs ps (b ∷ bytes) ≡ rest r′ cs ps bytes) → afterByte (state r cs ps) b ≡ state r′ cs ps
       → Feeding r₀ cs₀ ps₀ out₀ chunk r′ cs ps out written (i + 1)
   stays r′ fit′ e step =
       record {
@@ -93,7 +93,7 @@ module _ (r₀ : Reading) (cs₀ ps₀ out₀ chunk : List ℕ) (r : Reading) (c
 
   -- lines are read no more
   pub feeding-skips : b ≡ 10 → r .going ≡ false → Feeding r₀ cs₀ ps₀ out₀ chunk r cs ps out written (i + 1)
-  feeding-skips newline over = stays r (f .fit) (λ bytes. unfold rest next in rw over refl) (after-skipped r cs ps b newline over)
+  feeding-skips newline over = stays r (f .fit) (λ bytes. unfold rest listedFrom in rw over refl) (after-skipped r cs ps b newline over)
 
   module _ (ne : b ≡ 10 → ⊥) where
     -- past 64 bytes, one byte more is not kept
@@ -102,7 +102,7 @@ module _ (r₀ : Reading) (cs₀ ps₀ out₀ chunk : List ℕ) (r : Reading) (c
         stays r (f .fit)
         (λ bytes.
         unfold rest in
-        byte-lost (r .going) (r .columns) (r .number) (held (r .machine) cs ps) (begun r) b bytes (f .fit .no-newline)
+        byte-lost (r .going) (r .columns) (r .number) (held (r .machine) cs ps) (unfinished r) b bytes (f .fit .no-newline)
         (subst (λ (n : ℕ). 64 < n)
         (sym (length-take-le (r .length) (r .line) (subst (λ (n : ℕ). r .length ≤ n) (sym (f .fit .line-long)) (f .fit .few-bytes))))
         long) ne)
@@ -118,18 +118,18 @@ module _ (r₀ : Reading) (cs₀ ps₀ out₀ chunk : List ℕ) (r : Reading) (c
           holds = f .fit .holds;
           line-long = length-set (r .line) (r .length) b ∙ f .fit .line-long;
           few-bytes = omega (arith, short);
-          no-newline = ap (free 10) joined ∙ free-joined (begun r) b (f .fit .no-newline) ne;
+          no-newline = ap (free 10) joined ∙ free-joined (unfinished r) b (f .fit .no-newline) ne;
           some-line = f .fit .some-line;
           few-lines = f .fit .few-lines;
           first-blank = f .fit .first-blank;
         })
         (λ bytes.
         unfold rest in
-        ap (λ (x : List ℕ). next (r .going) (r .columns) (r .number) (held (r .machine) cs ps) (lines x))
-        (sym (append-assoc (begun r) (b ∷ []) bytes) ∙ ap (λ (x : List ℕ). x ++ bytes) (sym joined)))
+        ap (λ (x : List ℕ). listedFrom (r .going) (r .columns) (r .number) (held (r .machine) cs ps) (lines x))
+        (sym (append-assoc (unfinished r) (b ∷ []) bytes) ∙ ap (λ (x : List ℕ). x ++ bytes) (sym joined)))
         (after-joined r cs ps b ne short)
       where
-        joined : take (r .length + 1) (set (r .line) (r .length) b) ≡ begun r ++ b ∷ []
+        joined : take (r .length + 1) (set (r .line) (r .length) b) ≡ unfinished r ++ b ∷ []
         joined =
             sym (ap (λ (n : ℕ). take n (set (r .line) (r .length) b)) (one-more (r .length)))
             ∙ take-suc-set (r .line) (r .length) b (subst (λ (n : ℕ). r .length < n) (sym (f .fit .line-long)) short)
@@ -140,10 +140,10 @@ module _ (r₀ : Reading) (cs₀ ps₀ out₀ chunk : List ℕ) (r : Reading) (c
     r′ = reading going′ at′ (r .number + 1) (r .line) 0 m′
 
     pub feeding-ends : ((ls : List (List ℕ))
-        → next true (r .columns) (r .number) (held (r .machine) cs ps) (begun r ∷ ls)
-        ≡ take k part ++ next going′ at′ (r .number + 1) (held m′ cs′ ps′) ls)
-        → Held m′ cs′ ps′ → k ≤ 32 → drop k part ≡ drop k (drop written out) → (going′ ≡ true → r .number ≤ mostLines)
-        → length part ≡ length (drop written out) → written ≤ length out → after (state r cs ps) b ≡ state r′ cs′ ps′
+        → listedFrom true (r .columns) (r .number) (held (r .machine) cs ps) (unfinished r ∷ ls)
+        ≡ take k part ++ listedFrom going′ at′ (r .number + 1) (held m′ cs′ ps′) ls)
+        → BlankOrSound m′ cs′ ps′ → k ≤ 32 → drop k part ≡ drop k (drop written out) → (going′ ≡ true → r .number ≤ mostLines)
+        → length part ≡ length (drop written out) → written ≤ length out → afterByte (state r cs ps) b ≡ state r′ cs′ ps′
         → Feeding r₀ cs₀ ps₀ out₀ chunk r′ cs′ ps′ (take written out ++ part) (written + k) (i + 1)
     feeding-ends ends holds few rest-kept lines-few long within step =
         record {
@@ -184,7 +184,7 @@ module _ (r₀ : Reading) (cs₀ ps₀ out₀ chunk : List ℕ) (r : Reading) (c
             (drop-append-add (take written out) part k)
 
         line-ended : (bytes : List ℕ) → rest r cs ps (b ∷ bytes) ≡ take k part ++ rest r′ cs′ ps′ bytes
-        line-ended bytes = unfold rest in rw (newline, going, lines-newline (begun r) bytes (f .fit .no-newline)) (ends (lines bytes))
+        line-ended bytes = unfold rest in rw (newline, going, lines-newline (unfinished r) bytes (f .fit .no-newline)) (ends (lines bytes))
 
 -- the output's part from `written` on, as it is lent: its own bytes, and none after it
 part-whole : (out : List ℕ) (written : ℕ) → take (length out - written) (drop written out) ≡ drop written out
@@ -203,15 +203,15 @@ room-left f h room = omega (arith, f .room, f .out-long, h, room)
 
 module _ (r₀ : Reading) (cs₀ ps₀ out₀ chunk : List ℕ) (r : Reading) (cs ps out : List ℕ) (written i : ℕ)
     (f : Feeding r₀ cs₀ ps₀ out₀ chunk r cs ps out written i) (h : i < length chunk) (newline : getD chunk i 0 ≡ 10) (going : r .going ≡ true)
-    (room : written + 32 ≤ length out) (a : Asked) (is : a ≡ asks (r .columns) (r .number) (begun r) (r .machine .cores)) where
+    (room : written + 32 ≤ length out) (a : Asked) (is : a ≡ asks (r .columns) (r .number) (unfinished r) (r .machine .cores)) where
   abbrev w : World
   w = held (r .machine) cs ps
 
   -- what the line asks for leads to what is listed
-  leads : Leads (r .columns) (r .number) w (begun r) a
+  leads : Leads (r .columns) (r .number) w (unfinished r) a
   leads =
-      subst (Leads (r .columns) (r .number) w (begun r)) (sym is)
-      (line-leads (r .columns) (r .number) w (begun r) (r .machine .cores) (f .fit .some-line) (λ one. ap (λ (m : Machine). m .cores) (f .fit .first-blank one))
+      subst (Leads (r .columns) (r .number) w (unfinished r)) (sym is)
+      (line-leads (r .columns) (r .number) w (unfinished r) (r .machine .cores) (f .fit .some-line) (λ one. ap (λ (m : Machine). m .cores) (f .fit .first-blank one))
       (nothing-if-none (r .machine) cs ps (f .fit .holds)))
 
   -- the line's end, where what it asks for has been carried out by the rule: `part` is what it leaves of the output from `written` on
@@ -225,14 +225,14 @@ module _ (r₀ : Reading) (cs₀ ps₀ out₀ chunk : List ℕ) (r : Reading) (c
       (λ ls.
       led .listing ls
       ∙ ap₂ _++_ (sym said)
-      (ap₂ (λ (x : Bool) (v : World). next x (ordered (r .columns) b) (r .number + 1) v ls) (sym goes-on) (sym (did .1 .0))))
+      (ap₂ (λ (x : Bool) (v : World). listedFrom x (ordered (r .columns) b) (r .number + 1) v ls) (sym goes-on) (sym (did .1 .0))))
       (did .1 .1 .0) few kept (λ e. led .few-lines (sym goes-on ∙ e)) long (omega (arith, room))
       (after-ended r cs ps (getD chunk i 0) newline going ∙ ap (pastLine (state r cs ps)) (led .leaving)
       ∙ past-made r cs ps (ordered (r .columns) b) (outcome w b .world) (sym goes-on) (sym (ap (λ (v : World). v .machine) (did .1 .0)))
       (sym (did .1 .1 .1 .0)) (sym (did .1 .1 .1 .1)))
     where
-      led : Leads (r .columns) (r .number) w (begun r) b
-      led = subst (Leads (r .columns) (r .number) w (begun r)) same leads
+      led : Leads (r .columns) (r .number) w (unfinished r) b
+      led = subst (Leads (r .columns) (r .number) w (unfinished r)) same leads
 
   -- the line of names: nothing is listed
   pub order-done : (at′ : Columns) → a ≡ Asked.Order at′

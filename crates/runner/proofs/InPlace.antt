@@ -1,4 +1,4 @@
--- A call that the loop makes in place: what the code found, saw and got, put back, is the rule's. Assumes nothing.
+-- A call that the loop makes in place: what the code found, saw and got, put back, is the rule's.
 use mathlib.Core.Path.{_≡_, refl, sym, ap, ap₂, subst, _∙_}
 use mathlib.Core.Bool.{Bool, true, false, cond}
 use mathlib.Core.List.{List, [], _∷_, _++_}

@@ -1,4 +1,4 @@
--- What `start` gives, and that chunks of any size give the listing. Assumes nothing.
+-- What `start` gives, and that chunks of any size give the listing. For readers: `any-cut`.
 use mathlib.Core.Path.{_≡_, refl, sym, ap, subst, _∙_}
 use mathlib.Core.Logic.{inl}
 use mathlib.Core.List.{List, [], _∷_, _++_, flatten, append-assoc}
@@ -8,16 +8,16 @@ use lib.ListN.{length}
 use Rattle.script.specs.Pieces.{lines, free}
 use Rattle.listing.specs.Text.{heading}
 use Rattle.runner.specs.declared.Reading.{Reading}
-use Rattle.runner.specs.Kept.{State, rest, started, Fit}
-use Rattle.runner.specs.Listing.{body, listing}
+use Rattle.runner.specs.Kept.{KeptState, rest, started, ReadingFits}
+use Rattle.runner.specs.Listing.{rows, listed, listing}
 use Rattle.runner.proofs.Finishing.{whole-script}
 
 -- before the first byte, with tables for the largest machine, whatever they hold
-pub start-fit : (r : Reading) (cs ps : List ℕ) → r ≡ started → length cs ≡ 64 → length ps ≡ 1024 → Fit r cs ps
+pub start-fit : (r : Reading) (cs ps : List ℕ) → r ≡ started → length cs ≡ 64 → length ps ≡ 1024 → ReadingFits r cs ps
 start-fit r cs ps new committed pending =
-    subst (λ (x : Reading). Fit x cs ps) (sym new)
+    subst (λ (x : Reading). ReadingFits x cs ps) (sym new)
     (record {
-      holds = record { committed-long = committed; pending-long = pending; blank-or-good = inl refl };
+      holds = record { committed-long = committed; pending-long = pending; blank-or-well-formed = inl refl };
       line-long = refl;
       few-bytes = omega arith;
       no-newline = unfold free in refl;
@@ -26,22 +26,22 @@ start-fit r cs ps new committed pending =
       first-blank = λ e. refl;
     })
 
-pub start-whole : (r : Reading) (cs ps : List ℕ) → r ≡ started → (bytes : List ℕ) → rest r cs ps bytes ≡ body (lines bytes)
+pub start-whole : (r : Reading) (cs ps : List ℕ) → r ≡ started → (bytes : List ℕ) → rest r cs ps bytes ≡ listed (rows bytes)
 start-whole r cs ps new bytes = ap (λ (x : Reading). rest x cs ps bytes) new ∙ whole-script started cs ps refl refl refl bytes
 
 -- what is still to be listed, if these bytes follow and the script ends
-abbrev pub left : State → List ℕ → List ℕ
+abbrev pub left : KeptState → List ℕ → List ℕ
 left s bytes = rest (s .reading) (s .committed) (s .pending) bytes
 
 -- a run from a state over the chunks, one after another: each output is what `feed` promises of its chunk, and the last is what
 -- `finish` promises
-pub data Run : State → List (List ℕ) → List (List ℕ) → List ℕ → Type 0 where
-  ends : {s : State} {last : List ℕ} → last ≡ left s [] → Run s [] [] last
-  feeds : {s : State} (s′ : State) {chunk output : List ℕ} {chunks outputs : List (List ℕ)} {last : List ℕ}
+pub data Run : KeptState → List (List ℕ) → List (List ℕ) → List ℕ → Type 0 where
+  ends : {s : KeptState} {last : List ℕ} → last ≡ left s [] → Run s [] [] last
+  feeds : {s : KeptState} (s′ : KeptState) {chunk output : List ℕ} {chunks outputs : List (List ℕ)} {last : List ℕ}
       → ((bytes : List ℕ) → left s (chunk ++ bytes) ≡ output ++ left s′ bytes) → Run s′ chunks outputs last
       → Run s (chunk ∷ chunks) (output ∷ outputs) last
 
-run-lists : (s : State) (chunks outputs : List (List ℕ)) (last : List ℕ) → Run s chunks outputs last
+run-lists : (s : KeptState) (chunks outputs : List (List ℕ)) (last : List ℕ) → Run s chunks outputs last
     → flatten outputs ++ last ≡ left s (flatten chunks)
 unfolding flatten
 run-lists s [] [] last (ends e) = e
@@ -50,7 +50,7 @@ run-lists s (chunk ∷ chunks) (output ∷ outputs) last (feeds s′ e run) =
     ∙ ap (λ (x : List ℕ). output ++ x) (run-lists s′ chunks outputs last run) ∙ sym (e (flatten chunks))
 
 -- from what is to be listed at the start: however the script is cut into chunks, the heading and the outputs together are its listing
-pub any-cut : (s : State) (chunks outputs : List (List ℕ)) (last : List ℕ) → ((bytes : List ℕ) → left s bytes ≡ body (lines bytes))
+pub any-cut : (s : KeptState) (chunks outputs : List (List ℕ)) (last : List ℕ) → ((bytes : List ℕ) → left s bytes ≡ listed (rows bytes))
     → Run s chunks outputs last → heading ++ flatten outputs ++ last ≡ listing (flatten chunks)
 unfolding listing
 any-cut s chunks outputs last starts run =

@@ -1,4 +1,4 @@
--- What the listing says of a line that has ended, and of a byte more of a line that has not. Assumes nothing.
+-- What the listing says of a line that has ended, and of a byte more of a line that has not.
 use mathlib.Core.Path.{_≡_, refl, sym, ap, subst, _∙_}
 use mathlib.Core.Bool.{Bool, true, false, cond, true≢false}
 use mathlib.Core.List.{List, [], _∷_, _++_, append-nil}
@@ -13,7 +13,7 @@ use Rattle.core.specs.declared.Answer.the-variants.{Refused}
 use Rattle.script.specs.declared.Columns.{Columns}
 use Rattle.script.specs.declared.Names.{Names}
 use Rattle.script.specs.declared.Names.the-variants as Names
-use Rattle.script.specs.Pieces.{lines, pieces, onto, ended, free}
+use Rattle.script.specs.Pieces.{lines, pieces, onto, withoutLastEmpty, free}
 use Rattle.script.specs.Line.{names, spells, fields, ordered as inOrder, place}
 use Rattle.script.proofs.Laws.{too-long, names-too-long, lines-begun, lines-last, some-piece, first, others, rest-of-line, later-lines}
 use Rattle.decimal.specs.Spelling.{spelling}
@@ -21,8 +21,8 @@ use Rattle.listing.specs.Text.{line, said}
 use Rattle.request.specs.declared.Asked.{Asked}
 use Rattle.request.specs.declared.Asked.the-variants as Asked
 use Rattle.request.specs.Asks.{mostLines, ofNames, ofLine, asks}
-use Rattle.runner.specs.Listing.{nothing, answered, listed, named, body}
-use Rattle.runner.specs.Kept.{next, lineEnd, namesEnd}
+use Rattle.runner.specs.Listing.{nothing, answered, valueRows, rowsAfter, rowsOf, listed}
+use Rattle.runner.specs.Kept.{listedFrom, lineEnd, namesEnd}
 use Rattle.runner.proofs.Asking.{lists, goes, ordered, outcome, Plain, line-plain, line-answered}
 
 -- ---- a line that has ended
@@ -33,8 +33,8 @@ unfolding line
 line-said n a b e = ap (λ (x : List ℕ). spelling n ++ x) e
 
 module _ (at : Columns) (w : World) (l : List ℕ) (ls : List (List ℕ)) where
-  pub names-good : (at′ : Columns) → names l ≡ Names.Order at′ → next true at 1 w (l ∷ ls) ≡ next true at′ 2 nothing ls
-  unfolding next body named
+  pub names-good : (at′ : Columns) → names l ≡ Names.Order at′ → listedFrom true at 1 w (l ∷ ls) ≡ listedFrom true at′ 2 nothing ls
+  unfolding listedFrom rowsOf rowsAfter listed
   names-good at′ e = rw e refl
 
   pub names-good-end : (at′ : Columns) → names l ≡ Names.Order at′ → lineEnd at 1 w l ≡ record { going = true; columns = at′; world = w }
@@ -45,17 +45,17 @@ module _ (at : Columns) (w : World) (l : List ℕ) (ls : List (List ℕ)) where
   unfolding lineEnd namesEnd
   names-bad-end e = rw e refl
 
-  pub names-bad : names l ≡ Names.Malformed → next true at 1 w (l ∷ ls) ≡ line 1 (Refused 11) ++ next false at 2 w ls
-  unfolding next body named
-  names-bad e = rw e (sym (append-nil (line 1 (Refused 11))))
+  pub names-bad : names l ≡ Names.Malformed → listedFrom true at 1 w (l ∷ ls) ≡ line 1 (Refused 11) ++ listedFrom false at 2 w ls
+  unfolding listedFrom rowsOf rowsAfter listed
+  names-bad e = rw e refl
 
   module _ (n : ℕ) (later : 1 < n) where
     not-first : eqb n 1 ≡ false
     not-first = ne-eqb n 1 (λ e. omega (arith, later, e))
 
-    pub past-most : mostLines < n → next true at n w (l ∷ ls) ≡ line n (Refused 11) ++ next false at (n + 1) w ls
-    unfolding next listed
-    past-most h = rw (not-first, lt-ltb mostLines n h) (sym (append-nil (line n (Refused 11))))
+    pub past-most : mostLines < n → listedFrom true at n w (l ∷ ls) ≡ line n (Refused 11) ++ listedFrom false at (n + 1) w ls
+    unfolding listedFrom listed valueRows
+    past-most h = rw (not-first, lt-ltb mostLines n h) refl
 
     pub past-most-end : mostLines < n → lineEnd at n w l ≡ record { going = false; columns = at; world = w }
     unfolding lineEnd
@@ -66,12 +66,12 @@ module _ (at : Columns) (w : World) (l : List ℕ) (ls : List (List ℕ)) where
     line-run-end h = rw (not-first, le-ltb mostLines n h) refl
 
     pub line-run : n ≤ mostLines
-        → next true at n w (l ∷ ls)
-        ≡ line n (answered w (spells at l) .answer) ++ next true at (n + 1) (answered w (spells at l) .world) ls
-    unfolding next listed
+        → listedFrom true at n w (l ∷ ls)
+        ≡ line n (answered w (spells at l) .answer) ++ listedFrom true at (n + 1) (answered w (spells at l) .world) ls
+    unfolding listedFrom listed valueRows
     line-run h = rw (not-first, le-ltb mostLines n h) (ap (λ (x : List ℕ). line n (answered w (spells at l) .answer) ++ x) (sym (after ls)))
       where
-        after : (ls : List (List ℕ)) → next true at (n + 1) (answered w (spells at l) .world) ls ≡ listed at (answered w (spells at l) .world) (n + 1) ls
+        after : (ls : List (List ℕ)) → listedFrom true at (n + 1) (answered w (spells at l) .world) ls ≡ listed (valueRows at (answered w (spells at l) .world) (n + 1) ls)
         after ls = rw (ne-eqb (n + 1) 1 (λ e. omega (arith, later, e))) refl
 
 -- what is listed of line n
@@ -80,7 +80,7 @@ text n w a = cond (lists a) (line n (outcome w a .answer)) []
 
 -- what line n, whose bytes are l, leads to, if it asks for this
 pub record Leads (at : Columns) (n : ℕ) (w : World) (l : List ℕ) (a : Asked) : Type 0 where
-  pub listing : (ls : List (List ℕ)) → next true at n w (l ∷ ls) ≡ text n w a ++ next (goes a) (ordered at a) (n + 1) (outcome w a .world) ls
+  pub listing : (ls : List (List ℕ)) → listedFrom true at n w (l ∷ ls) ≡ text n w a ++ listedFrom (goes a) (ordered at a) (n + 1) (outcome w a .world) ls
   pub leaving : lineEnd at n w l ≡ record { going = goes a; columns = ordered at a; world = outcome w a .world }
   pub few-lines : goes a ≡ true → n ≤ mostLines
 
@@ -92,7 +92,7 @@ module _ (at : Columns) (n : ℕ) (w : World) (l : List ℕ) where
       go : (x : Names) → names l ≡ x → Leads at 1 w l (ofNames x)
       go (Names.Order at′) e =
           record {
-            listing = λ ls. names-good at w l ls at′ e ∙ ap (λ (v : World). next true at′ 2 v ls) (sym blank);
+            listing = λ ls. names-good at w l ls at′ e ∙ ap (λ (v : World). listedFrom true at′ 2 v ls) (sym blank);
             leaving = names-good-end at w l [] at′ e;
             few-lines = λ on. omega arith;
           }
@@ -127,10 +127,10 @@ module _ (at : Columns) (n : ℕ) (w : World) (l : List ℕ) where
 -- ---- a byte more of a line that has not ended
 
 -- a line that is too long is malformed, whatever it holds
-pub next-long : (going : Bool) (at : Columns) (n : ℕ) (w : World) (l l′ : List ℕ) (ls : List (List ℕ)) → 64 < length l → 64 < length l′
-    → next going at n w (l ∷ ls) ≡ next going at n w (l′ ∷ ls)
-unfolding next body listed
-next-long going at n w l l′ ls h h′ = rw (too-long at l h, too-long at l′ h′, names-too-long l h, names-too-long l′ h′) refl
+pub listed-long : (going : Bool) (at : Columns) (n : ℕ) (w : World) (l l′ : List ℕ) (ls : List (List ℕ)) → 64 < length l → 64 < length l′
+    → listedFrom going at n w (l ∷ ls) ≡ listedFrom going at n w (l′ ∷ ls)
+unfolding listedFrom rowsOf listed valueRows
+listed-long going at n w l l′ ls h h′ = rw (too-long at l h, too-long at l′ h′, names-too-long l h, names-too-long l′ h′) refl
 
 -- a byte that is no newline joins the rest of the line
 onto-line : (b : ℕ) (bytes : List ℕ) → (b ≡ 10 → ⊥) → later-lines (b ∷ bytes) ≡ later-lines bytes
@@ -139,13 +139,13 @@ onto-line b bytes h = rw (ne-eqb b 10 h, some-piece 10 bytes) refl
 
 -- past 64 bytes, one byte more changes nothing
 pub byte-lost : (going : Bool) (at : Columns) (n : ℕ) (w : World) (p : List ℕ) (b : ℕ) (bytes : List ℕ) → free 10 p ≡ true → 64 < length p
-    → (b ≡ 10 → ⊥) → next going at n w (lines (p ++ b ∷ bytes)) ≡ next going at n w (lines (p ++ bytes))
+    → (b ≡ 10 → ⊥) → listedFrom going at n w (lines (p ++ b ∷ bytes)) ≡ listedFrom going at n w (lines (p ++ bytes))
 byte-lost going at n w [] b bytes f h ne = absurd (omega (arith, h))
 byte-lost going at n w (x ∷ p) b bytes f h ne =
-    ap (next going at n w) (lines-begun x p (b ∷ bytes) f)
-    ∙ next-long going at n w (x ∷ p ++ rest-of-line (b ∷ bytes)) (x ∷ p ++ rest-of-line bytes) (later-lines (b ∷ bytes)) (longer (rest-of-line (b ∷ bytes))) (longer (rest-of-line bytes))
-    ∙ ap (λ (ls : List (List ℕ)). next going at n w ((x ∷ p ++ rest-of-line bytes) ∷ ls)) (onto-line b bytes ne)
-    ∙ sym (ap (next going at n w) (lines-begun x p bytes f))
+    ap (listedFrom going at n w) (lines-begun x p (b ∷ bytes) f)
+    ∙ listed-long going at n w (x ∷ p ++ rest-of-line (b ∷ bytes)) (x ∷ p ++ rest-of-line bytes) (later-lines (b ∷ bytes)) (longer (rest-of-line (b ∷ bytes))) (longer (rest-of-line bytes))
+    ∙ ap (λ (ls : List (List ℕ)). listedFrom going at n w ((x ∷ p ++ rest-of-line bytes) ∷ ls)) (onto-line b bytes ne)
+    ∙ sym (ap (listedFrom going at n w) (lines-begun x p bytes f))
   where
     longer : (q : List ℕ) → 64 < length (x ∷ p ++ q)
     longer q = simp length-append (omega (arith, h))
@@ -154,19 +154,19 @@ byte-lost going at n w (x ∷ p) b bytes f h ne =
 
 -- an unfinished line is a line
 pub last-line : (going : Bool) (at : Columns) (n : ℕ) (w : World) (p : List ℕ) → free 10 p ≡ true → 0 < length p
-    → next going at n w (lines (p ++ [])) ≡ next going at n w (p ∷ [])
+    → listedFrom going at n w (lines (p ++ [])) ≡ listedFrom going at n w (p ∷ [])
 last-line going at n w [] f h = absurd (omega (arith, h))
-last-line going at n w (b ∷ p) f h = ap (λ (x : List ℕ). next going at n w (lines x)) (append-nil (b ∷ p)) ∙ ap (next going at n w) (lines-last b p f)
+last-line going at n w (b ∷ p) f h = ap (λ (x : List ℕ). listedFrom going at n w (lines x)) (append-nil (b ∷ p)) ∙ ap (listedFrom going at n w) (lines-last b p f)
 
 -- after the line of names, no bytes are no line
-pub no-line : (going : Bool) (at : Columns) (n : ℕ) (w : World) → 1 < n → next going at n w [] ≡ []
-unfolding next listed
+pub no-line : (going : Bool) (at : Columns) (n : ℕ) (w : World) → 1 < n → listedFrom going at n w [] ≡ []
+unfolding listedFrom listed valueRows
 no-line true at n w h = rw (ne-eqb n 1 (λ e. omega (arith, h, e))) refl
 no-line false at n w h = refl
 
 -- empty input is a bad line of names
-pub no-names : (at : Columns) (w : World) → next true at 1 w (lines []) ≡ next true at 1 w ([] ∷ [])
-unfolding next body named lines pieces ended
+pub no-names : (at : Columns) (w : World) → listedFrom true at 1 w (lines []) ≡ listedFrom true at 1 w ([] ∷ [])
+unfolding listedFrom rowsOf rowsAfter listed lines pieces withoutLastEmpty
 no-names at w = rw empty-bad refl
   where
     empty-bad : names [] ≡ Names.Malformed

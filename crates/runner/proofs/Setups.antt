@@ -1,4 +1,4 @@
--- Setup, lent as many words of the two tables as it asks for. Assumes nothing.
+-- Setup, lent as many words of the two tables as it asks for.
 use mathlib.Core.Path.{_≡_, refl, sym, ap, subst, _∙_}
 use mathlib.Core.Logic.{inl, inr}
 use mathlib.Core.Bool.{Bool, true, false, not, _&&_}
@@ -17,7 +17,7 @@ use Rattle.core.specs.declared.Answer.the-variants.{Ready, Refused}
 use Rattle.machine.specs.Inside.{WellFormedWorld}
 use Rattle.machine.proofs.InsideLaws.{setup-left}
 use Rattle.machine.proofs.Sound.Passed.{in-range}
-use Rattle.runner.specs.Kept.{held, over, Held}
+use Rattle.runner.specs.Kept.{held, overlaid, BlankOrSound}
 use Rattle.runner.specs.Listing.{setUp}
 use Rattle.runner.proofs.Acts.{front-held}
 use Rattle.runner.proofs.Over.{over-front}
@@ -68,7 +68,7 @@ abbrev pub Done : List ℕ → List ℕ → ℕ → ℕ → Outcome → List ℕ
 Done cs₀ ps₀ cores cards r cs ps =
     (r .answer ≡ setUp cores cards .answer)
     × ((held (r .machine) cs ps ≡ setUp cores cards .world)
-    × (Held (r .machine) cs ps × ((cs ≡ over (setUp cores cards .world .committed) cs₀) × (ps ≡ over (setUp cores cards .world .pending) ps₀))))
+    × (BlankOrSound (r .machine) cs ps × ((cs ≡ overlaid (setUp cores cards .world .committed) cs₀) × (ps ≡ overlaid (setUp cores cards .world .pending) ps₀))))
 
 set-up-new : (cores cards : ℕ) → sizesInRange cores cards ≡ true → setUp cores cards ≡ new cores cards
 unfolding setUp
@@ -99,7 +99,7 @@ module _ (cores cards : ℕ) (cs ps : List ℕ) (cl : length cs ≡ 64) (pl : le
             record {
               committed-long = length-front cs cs′ cards cl′ ∙ cl;
               pending-long = length-front ps ps′ (cores * cards) pl′ ∙ pl;
-              blank-or-good = inr (subst WellFormedWorld (sym front) g);
+              blank-or-well-formed = inr (subst WellFormedWorld (sym front) g);
             },
             (
               over-front cards cs cs′ _ cl′ (ap (λ (x : Result). x .world .committed) made),
@@ -122,7 +122,7 @@ module _ (cores cards : ℕ) (cs ps : List ℕ) (cl : length cs ≡ 64) (pl : le
             record {
               committed-long = length-front cs cs′ 0 cl′ ∙ cl;
               pending-long = length-front ps ps′ 0 pl′ ∙ pl;
-              blank-or-good = inl blanked;
+              blank-or-well-formed = inl blanked;
             },
             (
               over-front 0 cs cs′ _ cl′ (ap (λ (x : Result). x .world .committed) (none ∙ sym to)),

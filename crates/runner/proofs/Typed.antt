@@ -1,4 +1,4 @@
--- What the types of the code say of a reading, whatever its fields hold, as `Typed` of machine does of a record. Assumes nothing.
+-- What the types of the code say of a reading, whatever its fields hold, as `Typed` of machine does of a record.
 use mathlib.Core.Path.{_≡_, sym, _∙_}
 use mathlib.Core.List.{List}
 use lib.ListN.{length, length-map}

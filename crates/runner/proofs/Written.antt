@@ -1,4 +1,4 @@
--- What a line of the listing leaves in an output that has room for it. Assumes nothing.
+-- What a line of the listing leaves in an output that has room for it.
 use mathlib.Core.Path.{_≡_, refl, sym, ap, subst, _∙_}
 use mathlib.Core.List.{List, _++_}
 use Prim.Native.Nat.{ℕ, _≤_}

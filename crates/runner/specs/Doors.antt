@@ -1,13 +1,14 @@
--- What the runner's doors take: any reading, tables and output may be handed in. Assumes nothing.
+-- What the runner's doors take: any reading, tables and output may be handed in.
 use Prim.Native.Nat.{ℕ, _+_, _*_}
 use mathlib.Core.Bool.{Bool, not, cond, _&&_, _||_}
 use lib.Dec.{eqb, leb, ltb}
 use Rattle.machine.specs.Record.{blank}
 use Rattle.core.specs.Tidy.{_⇒_}
 use Rattle.machine.specs.Sound.{sound}
+use Rattle.decimal.specs.Bytes.{byte}
 use Rattle.script.specs.Pieces.{free}
 use Rattle.runner.specs.declared.Reading.{Reading}
-use Rattle.runner.specs.Kept.{begun}
+use Rattle.runner.specs.Kept.{keptBytes, lineRoom, unfinished, committedWords, pendingWords}
 use Rattle.request.specs.Asks.{mostLines}
 
 -- whether a reading is sound: its line has a number, at most 1,000,001 while lines are read; at most 65 bytes of it are kept, none of
@@ -16,13 +17,13 @@ unfoldable pub readable : Reading → Bool
 readable r =
     ltb 0 (r .number)
     && (r .going ⇒ leb (r .number) (mostLines + 1))
-    && leb (r .length) 65
-    && free 10 (begun r)
+    && leb (r .length) keptBytes
+    && free (byte "\n") (unfinished r)
     && (eqb (r .machine .cores) 0 || (ltb 1 (r .number) && sound (r .machine)))
 
 -- a record with no cores is no machine, whatever else it holds: it is taken as the blank one
-unfoldable pub cleared : Reading → Reading
-cleared r =
+unfoldable pub asTaken : Reading → Reading
+asTaken r =
     cond (eqb (r .machine .cores) 0)
     (record { going = r .going; columns = r .columns; number = r .number; line = r .line; length = r .length; machine = blank }) r
 
@@ -30,4 +31,4 @@ cleared r =
 -- output has not 32 bytes for each byte that is read
 unfoldable pub refusal : Reading → ℕ → ℕ → ℕ → ℕ → ℕ
 refusal r committed pending bytes room =
-    cond (not (readable r)) 2 (cond (not (eqb committed 64 && eqb pending 1024)) 3 (cond (ltb room (32 * bytes)) 12 0))
+    cond (not (readable r)) 2 (cond (not (eqb committed committedWords && eqb pending pendingWords)) 3 (cond (ltb room (lineRoom * bytes)) 12 0))

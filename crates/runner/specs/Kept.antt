@@ -1,4 +1,4 @@
--- What the runner keeps between two chunks, and what is still to be listed. Assumes nothing.
+-- What the runner keeps between two chunks, and what is still to be listed.
 use Prim.Native.Nat.{ℕ, _+_, _*_, _≤_, _<_}
 use mathlib.Core.Path.{_≡_}
 use mathlib.Core.Logic.{_⊎_}
@@ -6,48 +6,66 @@ use mathlib.Core.Bool.{Bool, true, false, cond, _&&_, _||_}
 use mathlib.Core.List.{List, [], _∷_, _++_}
 use lib.Dec.{eqb, ltb}
 use lib.ListN.{length, take, drop, set, replicate}
+use Rattle.objset.specs.Objset.{mostObjects}
+use Rattle.core.specs.Parts.{mostCores}
 use Rattle.machine.specs.Record.{blank}
 use Rattle.machine.specs.Rule.{World, lent}
 use Rattle.machine.specs.declared.Machine.{Machine}
 use Rattle.machine.specs.Inside.{WellFormedWorld}
+use Rattle.decimal.specs.Bytes.{byte}
 use Rattle.script.specs.declared.Columns.{Columns}
 use Rattle.script.specs.declared.Names.{Names}
 use Rattle.script.specs.declared.Names.the-variants.{Order, Malformed}
-use Rattle.script.specs.Line.{names, spells}
+use Rattle.script.specs.Line.{longest, names, spells}
 use Rattle.script.specs.Pieces.{lines, free}
 use Rattle.runner.specs.declared.Reading.{Reading}
 use Rattle.request.specs.Asks.{mostLines}
-use Rattle.runner.specs.Listing.{answered, body, listed}
+use Rattle.runner.specs.Listing.{answered, valueRows, rowsOf, listed}
 
 -- the record with the first words of the two lent tables, as many as it has cards and cores × cards
 abbrev pub held : Machine → List ℕ → List ℕ → World
 held m committed pending = lent m (take (m .objects) committed) (take (m .cores * m .objects) pending)
 
 -- what is listed of these lines, the first of them with the number n, while lines are read
-unfoldable pub next : Bool → Columns → ℕ → World → List (List ℕ) → List ℕ
-next going at n w ls = cond going (cond (eqb n 1) (body ls) (listed at w n ls)) []
+unfoldable pub listedFrom : Bool → Columns → ℕ → World → List (List ℕ) → List ℕ
+listedFrom going at n w ls = cond going (listed (cond (eqb n 1) (rowsOf ls) (valueRows at w n ls))) []
+
+-- how many bytes of a line are kept: one more than it may have, so that a line that is too long is known
+abbrev pub keptBytes : ℕ
+keptBytes = longest + 1
+
+-- how many bytes of output each byte of a chunk may need: it may end a line
+abbrev pub lineRoom : ℕ
+lineRoom = 32
 
 -- the bytes of the unfinished line that are kept
-abbrev pub begun : Reading → List ℕ
-begun r = take (r .length) (r .line)
+abbrev pub unfinished : Reading → List ℕ
+unfinished r = take (r .length) (r .line)
 
 -- what is still to be listed, if these bytes follow and the script ends
 unfoldable pub rest : Reading → List ℕ → List ℕ → List ℕ → List ℕ
 rest r committed pending bytes =
-    next (r .going) (r .columns) (r .number) (held (r .machine) committed pending) (lines (begun r ++ bytes))
+    listedFrom (r .going) (r .columns) (r .number) (held (r .machine) committed pending) (lines (unfinished r ++ bytes))
 
--- tables for the largest machine; the record is blank, or it is sound and was made by calls on these tables
-pub record Held (m : Machine) (committed pending : List ℕ) : Type 0 where
-  pub committed-long : length committed ≡ 64
-  pub pending-long : length pending ≡ 1024
-  pub blank-or-good : (m ≡ blank) ⊎ WellFormedWorld (held m committed pending)
+-- how many words the tables of the largest machine have: one per card, and cores × cards
+abbrev pub committedWords : ℕ
+committedWords = mostObjects
 
--- what the runner keeps true between two chunks
-pub record Fit (r : Reading) (committed pending : List ℕ) : Type 0 where
-  pub holds : Held (r .machine) committed pending
-  pub line-long : length (r .line) ≡ 65
-  pub few-bytes : r .length ≤ 65
-  pub no-newline : free 10 (begun r) ≡ true
+abbrev pub pendingWords : ℕ
+pendingWords = mostCores * mostObjects
+
+-- record and tables: the tables are the largest machine's; the record is blank, or a well-formed world with its words of them
+pub record BlankOrSound (m : Machine) (committed pending : List ℕ) : Type 0 where
+  pub committed-long : length committed ≡ committedWords
+  pub pending-long : length pending ≡ pendingWords
+  pub blank-or-well-formed : (m ≡ blank) ⊎ WellFormedWorld (held m committed pending)
+
+-- what the runner keeps true between two chunks: that of its record and the tables, and what holds of the unfinished line and its number
+pub record ReadingFits (r : Reading) (committed pending : List ℕ) : Type 0 where
+  pub holds : BlankOrSound (r .machine) committed pending
+  pub line-long : length (r .line) ≡ keptBytes
+  pub few-bytes : r .length ≤ keptBytes
+  pub no-newline : free (byte "\n") (unfinished r) ≡ true
   pub some-line : 0 < r .number
   pub few-lines : r .going ≡ true → r .number ≤ mostLines + 1
   pub first-blank : r .number ≡ 1 → r .machine ≡ blank
@@ -55,12 +73,12 @@ pub record Fit (r : Reading) (committed pending : List ℕ) : Type 0 where
 -- ---- what a byte leaves of it
 
 -- what is kept: the reading, and every word of the two tables
-pub record State : Type 0 where
+pub record KeptState : Type 0 where
   pub reading : Reading
   pub committed : List ℕ
   pub pending : List ℕ
 
-abbrev pub state : Reading → List ℕ → List ℕ → State
+abbrev pub state : Reading → List ℕ → List ℕ → KeptState
 state r committed pending = record { reading = r; committed = committed; pending = pending }
 
 -- before the first byte; the order of the fields is not known yet
@@ -70,14 +88,14 @@ started =
       going = true;
       columns = record { call = 0; core = 0; card = 0; value = 0 };
       number = 1;
-      line = replicate 65 0;
+      line = replicate keptBytes 0;
       length = 0;
       machine = blank;
     }
 
 -- a table whose first words are these; the others stay
-abbrev pub over : List ℕ → List ℕ → List ℕ
-over words table = words ++ drop (length words) table
+abbrev pub overlaid : List ℕ → List ℕ → List ℕ
+overlaid words table = words ++ drop (length words) table
 
 -- what the end of a line leaves: whether lines are still read, the order of the fields, the record with its words
 pub record Ending : Type 0 where
@@ -97,7 +115,7 @@ lineEnd at n w l =
     (record { going = true; columns = at; world = answered w (spells at l) .world }))
 
 -- the next line begins
-abbrev pub pastLine : State → Ending → State
+abbrev pub pastLine : KeptState → Ending → KeptState
 pastLine s e =
     record {
       reading =
@@ -109,31 +127,32 @@ pastLine s e =
             length = 0;
             machine = e .world .machine;
           };
-      committed = over (e .world .committed) (s .committed);
-      pending = over (e .world .pending) (s .pending);
+      committed = overlaid (e .world .committed) (s .committed);
+      pending = overlaid (e .world .pending) (s .pending);
     }
 
--- a byte joins the line; past 64 one more is kept, and no other
+-- a byte joins the line
 abbrev pub joining : Reading → ℕ → Reading
 joining r b =
     record { going = r .going; columns = r .columns; number = r .number; line = set (r .line) (r .length) b; length = r .length + 1; machine = r .machine }
 
-unfoldable pub after : State → ℕ → State
-after s b =
+-- what a byte leaves: a newline ends the line, while lines are read; any other joins it, while bytes of it are kept
+unfoldable pub afterByte : KeptState → ℕ → KeptState
+afterByte s b =
     let r : Reading = s .reading in
-    cond (eqb b 10)
-    (cond (r .going) (pastLine s (lineEnd (r .columns) (r .number) (held (r .machine) (s .committed) (s .pending)) (begun r))) s)
-    (cond (ltb (r .length) 65) (state (joining r b) (s .committed) (s .pending)) s)
+    cond (eqb b (byte "\n"))
+    (cond (r .going) (pastLine s (lineEnd (r .columns) (r .number) (held (r .machine) (s .committed) (s .pending)) (unfinished r))) s)
+    (cond (ltb (r .length) keptBytes) (state (joining r b) (s .committed) (s .pending)) s)
 
 -- what these bytes leave
-unfoldable pub fed : State → List ℕ → State
+unfoldable pub fed : KeptState → List ℕ → KeptState
 fed s [] = s
-fed s (b ∷ bytes) = fed (after s b) bytes
+fed s (b ∷ bytes) = fed (afterByte s b) bytes
 
 -- a line is left at the script's end: the line of names, even with no byte, or a line that has a byte
 abbrev pub lineLeft : Reading → Bool
 lineLeft r = r .going && (eqb (r .number) 1 || ltb 0 (r .length))
 
 -- the script ends: a line without its newline is a line
-unfoldable pub finished : State → State
-finished s = cond (lineLeft (s .reading)) (after s 10) s
+unfoldable pub atEnd : KeptState → KeptState
+atEnd s = cond (lineLeft (s .reading)) (afterByte s (byte "\n")) s

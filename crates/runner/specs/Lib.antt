@@ -1,4 +1,4 @@
--- The definitions that the contracts cite. Assumes nothing.
+-- The definitions that the contracts cite.
 pub mod Listing
 pub mod Kept
 pub mod Doors

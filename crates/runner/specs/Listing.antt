@@ -1,4 +1,4 @@
--- The listing of any list of bytes (document 01, 'Script and listing'). Assumes nothing.
+-- The listing of any list of bytes (document 01, 'Script and listing').
 use Prim.Native.Nat.{ℕ, _+_, _*_}
 use mathlib.Core.Bool.{cond}
 use mathlib.Core.List.{List, [], _∷_, _++_}
@@ -7,6 +7,7 @@ use lib.ListN.{replicate}
 use Rattle.machine.specs.Record.{blank, sizesInRange}
 use Rattle.machine.specs.Rule as Rule
 use Rattle.machine.specs.Rule.{World, Result, lent, rule, firstAhead, coreOf}
+use Rattle.core.specs.declared.Answer.{Answer}
 use Rattle.core.specs.declared.Answer.the-variants.{Refused}
 use Rattle.script.specs.declared.Call.{Call}
 use Rattle.script.specs.declared.Call.the-variants as Call
@@ -52,33 +53,53 @@ unfoldable pub met : World → Request → Result
 met w (Anew cores cards) = setUp cores cards
 met w (Asks call) = rule (firstAhead (w .machine) (coreOf call)) w call
 
-abbrev pub called : World → Call → Result
-called w call = met w (request call)
-
 -- a line that is not a call yields refusal 11
 unfoldable pub answered : World → Line → Result
-answered w (Spells call) = called w call
+answered w (Spells call) = met w (request call)
 answered w Malformed = record { answer = Refused 11; world = w }
+
+-- ---- the rows of the listing
+
+-- a row: the number of a line of the script, what the line spells, and its answer, of which the listing shows word and value
+pub record Row : Type 0 where
+  pub number : ℕ
+  pub spelt : Line
+  pub answer : Answer
+
+-- no call is made, whatever the line holds
+abbrev pub unread : ℕ → Row
+unread n = record { number = n; spelt = Malformed; answer = Refused 11 }
+
+-- the rows of these lines of values, the first of them with the number n: each gets its answer and the next line is read; line
+-- 1,000,001 is refused 11 and ends the run
+unfoldable pub valueRows : Columns → World → ℕ → List (List ℕ) → List Row
+valueRows at w n [] = []
+valueRows at w n (l ∷ ls) =
+    cond (ltb mostLines n) (unread n ∷ [])
+    (record { number = n; spelt = spells at l; answer = answered w (spells at l) .answer }
+    ∷ valueRows at (answered w (spells at l) .world) (n + 1) ls)
+
+-- a bad names line gives `1 refused 11`, and nothing is read after it
+unfoldable pub rowsAfter : Names → List (List ℕ) → List Row
+rowsAfter (Names.Order at) ls = valueRows at nothing 2 ls
+rowsAfter Names.Malformed ls = unread 1 ∷ []
+
+-- so does empty input
+unfoldable pub rowsOf : List (List ℕ) → List Row
+rowsOf [] = unread 1 ∷ []
+rowsOf (l ∷ ls) = rowsAfter (names l) ls
+
+-- the rows of a script
+abbrev pub rows : List ℕ → List Row
+rows script = rowsOf (lines script)
 
 -- ---- the listing
 
--- what is listed of these lines, the first of them with the number n: each gets its answer and the next line is read; line 1,000,001
--- is refused 11 and ends the run
-unfoldable pub listed : Columns → World → ℕ → List (List ℕ) → List ℕ
-listed at w n [] = []
-listed at w n (l ∷ ls) =
-    cond (ltb mostLines n) (line n (Refused 11))
-    (line n (answered w (spells at l) .answer) ++ listed at (answered w (spells at l) .world) (n + 1) ls)
+-- a row is listed as its number and its answer
+unfoldable pub listed : List Row → List ℕ
+listed [] = []
+listed (r ∷ rs) = line (r .number) (r .answer) ++ listed rs
 
--- a bad names line gives `1 refused 11`, and nothing is read after it
-unfoldable pub named : Names → List (List ℕ) → List ℕ
-named (Names.Order at) ls = listed at nothing 2 ls
-named Names.Malformed ls = line 1 (Refused 11)
-
--- so does empty input
-unfoldable pub body : List (List ℕ) → List ℕ
-body [] = line 1 (Refused 11)
-body (l ∷ ls) = named (names l) ls
-
+-- the heading, and below it the rows of the script
 unfoldable pub listing : List ℕ → List ℕ
-listing script = heading ++ body (lines script)
+listing script = heading ++ listed (rows script)

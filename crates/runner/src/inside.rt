@@ -1,6 +1,7 @@
-// The runner for callers that have proved what it asks: a reading that is fit for its tables (`Fit`), and room for what may be written.
-// No test of the record is made; the doors in lib.rt test, and then call these.
+// The runner for callers that have proved its conditions: a reading that is fit for its tables (`ReadingFits`), and room for what may be
+// written. No test of the record is made; the doors in lib.rt test, and then call these.
 use crate::Fed;
+use crate::KEPT_BYTES;
 use crate::Reading;
 use crate::setup::set_up;
 use core::Answer;
@@ -23,7 +24,7 @@ ghost use lib.Dec.{eqb, ltb};
 ghost use mathlib.Core.List.{List, [], _++_};
 ghost use Prim.Native.Nat.{ℕ, _*_, _≤_};
 ghost use lib.ListN.{length, take, drop};
-ghost use Rattle.runner.specs.Kept.{Fit, rest, state, fed, finished};
+ghost use Rattle.runner.specs.Kept.{ReadingFits, lineRoom, rest, state, fed, atEnd};
 
 // The next bytes of the script. The output needs 32 bytes for each of them; what is written is what the chunk adds to the listing, and
 // the bytes after it keep what they held. What is kept, with every word of both tables, is what `fed` says.
@@ -37,10 +38,10 @@ pub fn feed(
     pending: &mut [u32],
     output: &mut [u8],
 ) -> Fed
-    requires { ⌜ Fit r (now committed) (now pending) × (32 * length (now chunk) ≤ length (now output)) ⌝ }
-    ensures fit { λ o. ⌜ Fit (o .reading) (now (committed .exit)) (now (pending .exit)) ⌝ }
+    requires { ⌜ ReadingFits r (now committed) (now pending) × (lineRoom * length (now chunk) ≤ length (now output)) ⌝ }
+    ensures fit { λ o. ⌜ ReadingFits (o .reading) (now (committed .exit)) (now (pending .exit)) ⌝ }
     ensures listed { λ o. ⌜ ((bytes : List ℕ) → rest r (now (committed .entry)) (now (pending .entry)) (now (chunk .entry) ++ bytes) ≡ take (o .written) (now (output .exit)) ++ rest (o .reading) (now (committed .exit)) (now (pending .exit)) bytes) ⌝ }
-    ensures after { λ o. ⌜ (o .written ≤ 32 * length (now (chunk .entry))) × (drop (o .written) (now (output .exit)) ≡ drop (o .written) (now (output .entry))) ⌝ }
+    ensures after { λ o. ⌜ (o .written ≤ lineRoom * length (now (chunk .entry))) × (drop (o .written) (now (output .exit)) ≡ drop (o .written) (now (output .entry))) ⌝ }
     ensures kept { λ o. ⌜ state (o .reading) (now (committed .exit)) (now (pending .exit)) ≡ fed (state r (now (committed .entry)) (now (pending .entry))) (now (chunk .entry)) ⌝ }
 {
     let mut going = r.going;
@@ -120,7 +121,7 @@ pub fn feed(
                     }
                 }
             }
-        } else if length < 65 {
+        } else if length < KEPT_BYTES {
             line[length] = b;
             length += 1;
         }
@@ -151,10 +152,10 @@ fn line_left(number: u32, length: usize) -> bool
 // The script's end: a line without its newline is a line. What is written is the rest of the listing, and the bytes after it keep what
 // they held.
 pub fn finish(r: Reading, committed: &mut [u32], pending: &mut [u32], output: &mut [u8]) -> Fed
-    requires { ⌜ Fit r (now committed) (now pending) × (32 ≤ length (now output)) ⌝ }
+    requires { ⌜ ReadingFits r (now committed) (now pending) × (lineRoom ≤ length (now output)) ⌝ }
     ensures listed { λ o. ⌜ take (o .written) (now (output .exit)) ≡ rest r (now (committed .entry)) (now (pending .entry)) [] ⌝ }
-    ensures after { λ o. ⌜ (o .written ≤ 32) × (drop (o .written) (now (output .exit)) ≡ drop (o .written) (now (output .entry))) ⌝ }
-    ensures kept { λ o. ⌜ state (o .reading) (now (committed .exit)) (now (pending .exit)) ≡ finished (state r (now (committed .entry)) (now (pending .entry))) ⌝ }
+    ensures after { λ o. ⌜ (o .written ≤ lineRoom) × (drop (o .written) (now (output .exit)) ≡ drop (o .written) (now (output .entry))) ⌝ }
+    ensures kept { λ o. ⌜ state (o .reading) (now (committed .exit)) (now (pending .exit)) ≡ atEnd (state r (now (committed .entry)) (now (pending .entry))) ⌝ }
 {
     let length = r.length;
     if r.going {

@@ -13,12 +13,24 @@ ghost use mathlib.Core.List.{List, [], _++_};
 ghost use Prim.Native.Nat.{ℕ, _≤_};
 ghost use lib.Dec.{eqb};
 ghost use lib.ListN.{length, take, drop};
-ghost use Rattle.runner.specs.Kept.{Fit, rest, state, started, fed, finished};
-ghost use Rattle.runner.specs.Doors.{cleared, refusal};
+ghost use Rattle.runner.specs.Kept.{ReadingFits, rest, state, started, fed, atEnd};
+ghost use Rattle.runner.specs.Doors.{asTaken, refusal};
 
 pub mod inside;
 mod setup;
 mod soundness;
+
+// How many bytes of a line are kept: one more than it may have, so that a line that is too long is known.
+pub const KEPT_BYTES: usize = 65;
+
+// How many words the largest machine's table of committed values has: one per card, 64.
+pub const COMMITTED_WORDS: usize = objset::OBJECTS;
+
+// How many its table of pending values has: cores × cards, 1,024.
+pub const PENDING_WORDS: usize = core::CORES * objset::OBJECTS;
+
+// How many bytes of output each byte of a chunk may need: it may end a line.
+pub const LINE_ROOM: usize = 32;
 
 // What is kept of a script between two chunks.
 pub struct Reading {
@@ -29,7 +41,7 @@ pub struct Reading {
     // the number of the line that is being read, from 1
     pub number: u32,
     // the first bytes of that line, and how many are kept: past 64 the line is malformed, whatever it holds
-    pub line: [u8; 65],
+    pub line: [u8; KEPT_BYTES],
     pub length: usize,
     pub machine: Machine,
 }
@@ -61,7 +73,7 @@ impl Reading {
                 value: 0,
             },
             number: 1,
-            line: [0; 65],
+            line: [0; KEPT_BYTES],
             length: 0,
             machine: Machine::blank(),
         }
@@ -79,9 +91,9 @@ impl Reading {
         output: &mut [u8],
     ) -> Taken
         ensures refusal { λ o. ⌜ o .refusal ≡ refusal self (length (now (committed .entry))) (length (now (pending .entry))) (length (now (chunk .entry))) (length (now (output .entry))) ⌝ }
-        ensures kept { λ o. ⌜ state (o .reading) (now (committed .exit)) (now (pending .exit)) ≡ cond (eqb (o .refusal) 0) (fed (state (cleared self) (now (committed .entry)) (now (pending .entry))) (now (chunk .entry))) (state self (now (committed .entry)) (now (pending .entry))) ⌝ }
-        ensures fit { λ o. ⌜ (o .refusal ≡ 0 → Fit (o .reading) (now (committed .exit)) (now (pending .exit))) ⌝ }
-        ensures listed { λ o. ⌜ (o .refusal ≡ 0 → (bytes : List ℕ) → rest (cleared self) (now (committed .entry)) (now (pending .entry)) (now (chunk .entry) ++ bytes) ≡ take (o .written) (now (output .exit)) ++ rest (o .reading) (now (committed .exit)) (now (pending .exit)) bytes) ⌝ }
+        ensures kept { λ o. ⌜ state (o .reading) (now (committed .exit)) (now (pending .exit)) ≡ cond (eqb (o .refusal) 0) (fed (state (asTaken self) (now (committed .entry)) (now (pending .entry))) (now (chunk .entry))) (state self (now (committed .entry)) (now (pending .entry))) ⌝ }
+        ensures fit { λ o. ⌜ (o .refusal ≡ 0 → ReadingFits (o .reading) (now (committed .exit)) (now (pending .exit))) ⌝ }
+        ensures listed { λ o. ⌜ (o .refusal ≡ 0 → (bytes : List ℕ) → rest (asTaken self) (now (committed .entry)) (now (pending .entry)) (now (chunk .entry) ++ bytes) ≡ take (o .written) (now (output .exit)) ++ rest (o .reading) (now (committed .exit)) (now (pending .exit)) bytes) ⌝ }
         ensures after { λ o. ⌜ (o .written ≤ length (now (output .entry))) × (eqb (o .refusal) 0 ≡ false → o .written ≡ 0) × (drop (o .written) (now (output .exit)) ≡ drop (o .written) (now (output .entry))) ⌝ }
     {
         let refusal = refusal_of(
@@ -111,8 +123,8 @@ impl Reading {
     // what they held. 2 unsound reading, 3 wrong table, 12 the output has not 32 bytes.
     pub fn finish(self, committed: &mut [u32], pending: &mut [u32], output: &mut [u8]) -> Taken
         ensures refusal { λ o. ⌜ o .refusal ≡ refusal self (length (now (committed .entry))) (length (now (pending .entry))) 1 (length (now (output .entry))) ⌝ }
-        ensures kept { λ o. ⌜ state (o .reading) (now (committed .exit)) (now (pending .exit)) ≡ cond (eqb (o .refusal) 0) (finished (state (cleared self) (now (committed .entry)) (now (pending .entry)))) (state self (now (committed .entry)) (now (pending .entry))) ⌝ }
-        ensures listed { λ o. ⌜ (o .refusal ≡ 0 → take (o .written) (now (output .exit)) ≡ rest (cleared self) (now (committed .entry)) (now (pending .entry)) []) ⌝ }
+        ensures kept { λ o. ⌜ state (o .reading) (now (committed .exit)) (now (pending .exit)) ≡ cond (eqb (o .refusal) 0) (atEnd (state (asTaken self) (now (committed .entry)) (now (pending .entry)))) (state self (now (committed .entry)) (now (pending .entry))) ⌝ }
+        ensures listed { λ o. ⌜ (o .refusal ≡ 0 → take (o .written) (now (output .exit)) ≡ rest (asTaken self) (now (committed .entry)) (now (pending .entry)) []) ⌝ }
         ensures after { λ o. ⌜ (o .written ≤ length (now (output .entry))) × (eqb (o .refusal) 0 ≡ false → o .written ≡ 0) × (drop (o .written) (now (output .exit)) ≡ drop (o .written) (now (output .entry))) ⌝ }
     {
         let refusal = refusal_of(self, committed.len(), pending.len(), 1, output.len());

@@ -1,4 +1,8 @@
-// The soundness test of a reading, whatever its fields hold, and the test that tables and output fit it. Assumes nothing.
+// The soundness test of a reading, whatever its fields hold, and the test that tables and output fit it.
+use crate::COMMITTED_WORDS;
+use crate::KEPT_BYTES;
+use crate::LINE_ROOM;
+use crate::PENDING_WORDS;
 use crate::Reading;
 use machine::Machine;
 ghost use mathlib.Core.Path.{_≡_};
@@ -7,16 +11,17 @@ ghost use Prim.Native.Nat.{_+_};
 ghost use lib.Dec.{eqb, leb, ltb};
 ghost use Rattle.core.specs.Tidy.{_⇒_};
 ghost use Rattle.machine.specs.Sound.{sound};
+ghost use Rattle.decimal.specs.Bytes.{byte};
 ghost use Rattle.script.specs.Pieces.{free};
 ghost use Rattle.request.specs.Asks.{mostLines};
-ghost use Rattle.runner.specs.Doors.{readable, cleared, refusal};
+ghost use Rattle.runner.specs.Doors.{readable, asTaken, refusal};
 
 // The greatest number that a line may have while lines are read.
 const LAST_LINE: u32 = 1_000_001;
 
 // Whether no byte is a newline.
 fn no_newline(bytes: &[u8]) -> bool
-    ensures { λ r. ⌜ r ≡ free 10 (now (bytes .entry)) ⌝ }
+    ensures { λ r. ⌜ r ≡ free (byte "\n") (now (bytes .entry)) ⌝ }
 {
     let mut i = 0;
     while i < bytes.len() {
@@ -62,7 +67,7 @@ fn is_readable(r: Reading) -> bool
         return false;
     }
     let length = r.length;
-    if 65 < length {
+    if KEPT_BYTES < length {
         return false;
     }
     let line = r.line;
@@ -80,13 +85,13 @@ pub fn refusal_of(r: Reading, committed: usize, pending: usize, bytes: usize, ro
     if !is_readable(r) {
         return 2;
     }
-    if committed != 64 {
+    if committed != COMMITTED_WORDS {
         return 3;
     }
-    if pending != 1024 {
+    if pending != PENDING_WORDS {
         return 3;
     }
-    if room / 32 < bytes {
+    if room / LINE_ROOM < bytes {
         return 12;
     }
     0
@@ -94,7 +99,7 @@ pub fn refusal_of(r: Reading, committed: usize, pending: usize, bytes: usize, ro
 
 // The reading, with a blank record where there is no machine.
 pub fn clear(r: Reading) -> Reading
-    ensures { λ s. ⌜ s ≡ cleared r ⌝ }
+    ensures { λ s. ⌜ s ≡ asTaken r ⌝ }
 {
     let m = r.machine;
     if m.cores == 0 {

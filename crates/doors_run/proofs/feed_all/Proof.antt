@@ -1,4 +1,4 @@
--- `doors_run::feed_all` is safe and ends. The measure is what is left of the script. Assumes nothing.
+-- `doors_run::feed_all` is safe and ends. The measure is what is left of the script.
 use mathlib.Core.Path.{_≡_}
 use Prim.Native.Nat.{_-_, _≤_}
 use lib.ListN.{length}

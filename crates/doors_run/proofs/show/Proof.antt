@@ -1,4 +1,4 @@
--- `doors_run::show` is safe: the written bytes are the text's first ones. Assumes nothing.
+-- `doors_run::show` is safe: the written bytes are the text's first ones.
 use mathlib.Core.Path.{sym}
 use lib.Seq.{length-take-le}
 use borrow.Author.Needs.{needs}

@@ -1,19 +1,25 @@
 -- `entry::cards_run` meets its contract: the output has room for a listing of so many lines; or the second run lists what the first has
--- counted. Assumes nothing.
-use mathlib.Core.Path.{sym, _∙_}
+-- counted.
+use mathlib.Core.Path.{_≡_, sym, _∙_}
+use mathlib.Core.List.{List}
+use Prim.Native.Nat.{ℕ}
+use lib.ListN.{length}
 use denote.Ref.{now}
 use borrow.Author.Needs.{needs}
 use Rattle.runner.specs.Listing.{listing}
-use Rattle.runner.specs.Runs.{EveryScript}
-use Rattle.runner.proofs.Runs.{every-script}
+use Rattle.runner.specs.Runs.{ScriptRuns}
+use Rattle.runner.proofs.Runs.{script-runs}
+use Rattle.entry.specs.Fitting.{wholeOrNone}
+use Rattle.entry.specs.Enough.{Enough}
 use Rattle.entry.proofs.Fits.{has-room, too-long, fits}
-use Rattle.entry.proofs.Lines.{enough-room}
+use Rattle.entry.proofs.Lines.{enough-room, always-enough}
 use Rattle.entry.proofs.cards_run.Statement.{statement}
 use Rattle.entry.proofs.cards_run.Tie as tie
 
--- count and bytes, and the claim beside them
-with-claim : {A B : Type 0} → A × B → A × (B × EveryScript)
-with-claim p = (p .0, (p .1, every-script))
+-- count and bytes, and what follows of every script
+with-claims : (script output : List ℕ) {n : ℕ} {B : Type 0} → (n ≡ length (wholeOrNone (listing script) output)) × B
+    → (n ≡ length (wholeOrNone (listing script) output)) × (B × (Enough script output n × ScriptRuns script))
+with-claims script output p = (p .0, (p .1, (always-enough script output _ (p .0), script-runs script)))
 
 lines-of-requires : tie.Need-lines-of-requires
 lines-of-requires c κs = search needs
@@ -33,7 +39,7 @@ returns c =
     let then1 = c .before .before .before .before in
     let start = then1 .before .before .before .before .before .args in
     let room = enough-room (now (start .script)) _ _ (then1 .before .before .lines-of .ensures) (sym (then1 .before .is-enough .ensures) ∙ then1 .if1 .taken) in
-    with-claim (has-room (listing (now (start .script))) (now (start .output)) room _ _ (run .ensures .0) (run .ensures .1))
+    with-claims (now (start .script)) (now (start .output)) (has-room (listing (now (start .script))) (now (start .output)) room _ _ (run .ensures .0) (run .ensures .1))
 
 slice-relend-prefix-list-into : tie.Need-slice-relend-prefix-list-into
 slice-relend-prefix-list-into c = search needs
@@ -51,7 +57,7 @@ returns-2 : tie.Need-returns-2
 returns-2 c =
     let first = c .before .before .before .list-into2 in
     let start = c .before .before .before .before .before .before .before .before .before .before .args in
-    with-claim (too-long (listing (now (start .script))) (now (start .output)) (first .last .1 .0) (first .kept .1 .0) _ (first .ensures .0) (c .if2 .taken))
+    with-claims (now (start .script)) (now (start .output)) (too-long (listing (now (start .script))) (now (start .output)) (first .last .1 .0) (first .kept .1 .0) _ (first .ensures .0) (c .if2 .taken))
 
 list-into-requires-3 : tie.Need-list-into-requires-3
 list-into-requires-3 c κs = search needs
@@ -65,7 +71,7 @@ returns-3 c =
     let else2 = c .before .before .before .before in
     let first = else2 .before .before .before .list-into2 in
     let start = else2 .before .before .before .before .before .before .before .before .before .before .args in
-    with-claim (fits (listing (now (start .script))) (now (start .output)) (first .last .1 .0) (first .kept .1 .0) _ (first .ensures .0) (else2 .if2 .left) _ _ (second .ensures .0) (second .ensures .1))
+    with-claims (now (start .script)) (now (start .output)) (fits (listing (now (start .script))) (now (start .output)) (first .last .1 .0) (first .kept .1 .0) _ (first .ensures .0) (else2 .if2 .left) _ _ (second .ensures .0) (second .ensures .1))
 
 pub cards-run-spec : {M : Type 1} → statement M
 cards-run-spec =

@@ -1,4 +1,4 @@
--- `entry::chunk_end` meets its contract. Assumes nothing.
+-- `entry::chunk_end` meets its contract.
 use borrow.Author.Needs.{needs}
 use Rattle.entry.proofs.chunk_end.Statement.{statement}
 use Rattle.entry.proofs.chunk_end.Tie as tie

@@ -1,4 +1,4 @@
--- `entry::is_enough` meets its contract. Assumes nothing.
+-- `entry::is_enough` meets its contract.
 use mathlib.Core.Path.{sym}
 use Prim.Native.Nat.{_+_, _*_}
 use native.Mathlib.Omega.{arith}

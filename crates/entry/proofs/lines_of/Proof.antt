@@ -1,5 +1,5 @@
 -- `entry::lines_of` meets its contract. The loop's invariant: n lines begin in what is read (`Counted`); the measure is what is left of the
--- script. Assumes nothing.
+-- script.
 use Prim.Native.Nat.{_-_, _≤_}
 use native.Mathlib.Omega.{arith}
 use lib.ListN.{length-take}

@@ -1,4 +1,4 @@
--- `entry::list_into` meets its contract. The loop's invariant is `Running`; the measure is what is left of the script. Assumes nothing.
+-- `entry::list_into` meets its contract. The loop's invariant is `Running`; the measure is what is left of the script.
 use mathlib.Core.Path.{refl, sym, _∙_}
 use Prim.Native.Nat.{_-_}
 use native.Mathlib.Omega.{arith}
@@ -7,7 +7,7 @@ use lib.Seq.{length-take-le}
 use denote.Ref.{now}
 use borrow.Author.Needs.{needs}
 use Rattle.entry.proofs.Filling.{Running, heading-put, running-starts, running-goes, running-on, running-small, running-ends, few-bytes, less-left}
-use Rattle.runner.proofs.Bounds.{listing-short}
+use Rattle.runner.proofs.Bounds.{enough-any}
 use Rattle.entry.proofs.list_into.Statement.{statement}
 use Rattle.entry.proofs.list_into.Tie as tie
 
@@ -138,7 +138,7 @@ returns c =
 
 add-result : tie.Need-add-result Inv-loop μ-loop
 add-result c =
-    record { fits = omega (arith, returns c .0, listing-short (now (c .before .before .before .before .before .before .before .before .before .before .before .before .before .before .before .before .before .before .before .before .before .before .before .before .before .args .script))) }
+    record { fits = omega (arith, returns c .0, enough-any (now (c .before .before .before .before .before .before .before .before .before .before .before .before .before .before .before .before .before .before .before .before .before .before .before .before .before .args .script))) }
 
 pub list-into-spec : {M : Type 1} → statement M
 list-into-spec =

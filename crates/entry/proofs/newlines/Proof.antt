@@ -1,5 +1,5 @@
 -- `entry::newlines` meets its contract. The loop's invariant: n newlines stand before the byte at i (`Found`); the measure is what is left of
--- the block. Assumes nothing.
+-- the block.
 use Prim.Native.Nat.{_-_, _≤_}
 use native.Mathlib.Omega.{arith}
 use mathlib.Core.Logic.{⊎-elim}

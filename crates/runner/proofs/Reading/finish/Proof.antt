@@ -1,4 +1,4 @@
--- `runner::Reading::finish` meets its contract: what does not fit is refused, any other goes to the inside function. Assumes nothing.
+-- `runner::Reading::finish` meets its contract: what does not fit is refused, any other goes to the inside function.
 use mathlib.Core.Path.{refl, sym, ap, subst, _∙_}
 use mathlib.Core.Bool.{true≢false}
 use mathlib.Core.List.{[]}
@@ -9,8 +9,8 @@ use denote.Ref.{now}
 use borrow.Author.Needs.{needs}
 use borrow.Author.Tests.{ne-eqb}
 use Rattle.runner.specs.declared.Reading.{Reading}
-use Rattle.runner.specs.Kept.{Fit, rest, state, finished}
-use Rattle.runner.specs.Doors.{cleared}
+use Rattle.runner.specs.Kept.{ReadingFits, rest, state, atEnd}
+use Rattle.runner.specs.Doors.{asTaken}
 use Rattle.runner.proofs.Typed.{reading-formed}
 use Rattle.runner.proofs.Doors.{taken-fit}
 use Rattle.runner.proofs.Reading.finish.Statement.{statement}
@@ -34,10 +34,10 @@ finish-requires c κs =
     let asked = clear .before .before in
     let start = asked .before .before .before .before in
     let args = start .args in
-    let fit : Fit (cleared (args .self)) (now (args .committed)) (now (args .pending)) × (32 * 1 ≤ length (now (args .output))) =
+    let fit : ReadingFits (asTaken (args .self)) (now (args .committed)) (now (args .pending)) × (32 * 1 ≤ length (now (args .output))) =
     taken-fit (args .self) (now (args .committed)) (now (args .pending)) 1 (length (now (args .output)))
     (reading-formed (args .self) _ (start .good .0)) (sym (asked .refusal-of .ensures) ∙ clear .before .if1 .left) in
-    (subst (λ (r : Reading). Fit r (now (args .committed)) (now (args .pending))) (sym (clear .clear .ensures)) (fit .0), fit .1)
+    (subst (λ (r : Reading). ReadingFits r (now (args .committed)) (now (args .pending))) (sym (clear .clear .ensures)) (fit .0), fit .1)
 
 same-length : tie.Need-same-length
 same-length c = search needs
@@ -57,7 +57,7 @@ returns-2 c =
     let did = done .finish .ensures in (
       sym (clear .before .if1 .left) ∙ asked .refusal-of .ensures,
       (
-        did .1 .1 ∙ ap (λ (r : Reading). finished (state r (now (start .committed)) (now (start .pending)))) (clear .clear .ensures),
+        did .1 .1 ∙ ap (λ (r : Reading). atEnd (state r (now (start .committed)) (now (start .pending)))) (clear .clear .ensures),
         (
           (λ e. did .0 ∙ ap (λ (r : Reading). rest r (now (start .committed)) (now (start .pending)) []) (clear .clear .ensures)),
           (omega (arith, did .1 .0 .0, finish-requires (done .before) (done .finish .lifetimes) .1), (λ e. absurd (true≢false e)), did .1 .0 .1),

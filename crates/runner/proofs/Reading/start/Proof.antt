@@ -1,4 +1,4 @@
--- `runner::Reading::start` meets its contract. Assumes nothing.
+-- `runner::Reading::start` meets its contract.
 use mathlib.Core.Path.{refl}
 use borrow.Author.Needs.{needs}
 use Rattle.runner.proofs.Reading.start.Statement.{statement}

@@ -1,4 +1,4 @@
--- `runner::inside::feed` meets its contract. The loop's invariant is `Feeding`, that of the loop that strikes is `Striking`. Assumes nothing.
+-- `runner::inside::feed` meets its contract. The loop's invariant is `Feeding`, that of the loop that strikes is `Striking`.
 use mathlib.Core.Path.{_≡_, refl, sym, ap, subst, _∙_}
 use mathlib.Core.Logic.{⊎-elim}
 use mathlib.Core.Bool.{true}

@@ -1,4 +1,4 @@
--- `runner::inside::line_left` meets its contract. Assumes nothing.
+-- `runner::inside::line_left` meets its contract.
 use borrow.Author.Tests.{eq-eqb, ne-eqb}
 use Rattle.runner.proofs.inside.line_left.Statement.{statement}
 use Rattle.runner.proofs.inside.line_left.Tie as tie

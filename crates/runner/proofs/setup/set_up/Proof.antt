@@ -1,5 +1,5 @@
 -- `runner::setup::set_up` meets its contract: setup accepts the numbers in range with the words that they ask for, and refuses the
--- others with none. Assumes nothing.
+-- others with none.
 use mathlib.Core.Path.{sym, subst, _∙_}
 use Prim.Native.Nat.{ℕ, _*_, _≤_}
 use native.Mathlib.Omega.{arith}

@@ -1,4 +1,4 @@
--- `runner::soundness::is_line` meets its contract. Assumes nothing.
+-- `runner::soundness::is_line` meets its contract.
 use native.Mathlib.Omega.{arith}
 use borrow.Author.Tests.{lt-ltb, le-ltb}
 use Rattle.runner.proofs.soundness.is_line.Statement.{statement}

@@ -1,11 +1,18 @@
--- `runner::soundness::is_readable` meets its contract: the tests of `readable` one by one. Assumes nothing.
+-- `runner::soundness::is_readable` meets its contract: the tests of `readable` one by one.
 use mathlib.Core.Path.{_≡_, sym}
+use mathlib.Core.Bool.{Bool, true, false, _&&_}
+use Prim.Native.Nat.{_+_}
 use native.Mathlib.Omega.{arith}
+use lib.Dec.{leb, ltb}
 use lib.ListN.{length}
 use lib.Seq.{length-take-le}
 use borrow.Author.Needs.{needs}
 use borrow.Author.Tests.{le-leb, lt-leb}
 use Rattle.core.proofs.TestLaws.{holds, breaks}
+use Rattle.core.specs.Tidy.{_⇒_}
+use Rattle.request.specs.Asks.{mostLines}
+use Rattle.runner.specs.declared.Reading.{Reading}
+use Rattle.runner.specs.Kept.{keptBytes}
 use Rattle.runner.specs.Doors.{readable}
 use Rattle.runner.proofs.Typed.{reading-formed}
 use Rattle.runner.proofs.soundness.is_readable.Statement.{statement}
@@ -14,13 +21,20 @@ use Rattle.runner.proofs.soundness.is_readable.Tie as tie
 is-line-requires : tie.Need-is-line-requires
 is-line-requires c κs = search needs
 
+-- the first two tests of `readable`
+abbrev line-test : Reading → Bool
+line-test r = ltb 0 (r .number) && (r .going ⇒ leb (r .number) (mostLines + 1))
+
 returns : tie.Need-returns
 unfolding readable
-returns c = rw (breaks (c .before .is-line .ensures) (c .if1 .taken))
+returns c = let no-line : line-test (c .before .before .args .r) ≡ false = breaks (c .before .is-line .ensures) (c .if1 .taken) in rw no-line
 
 returns-2 : tie.Need-returns-2
 unfolding readable
-returns-2 c = rw (holds (c .before .before .is-line .ensures) (c .before .if1 .left), lt-leb _ 65 (c .if2 .taken))
+returns-2 c =
+    let r = c .before .before .before .args .r in
+    let some-line : line-test r ≡ true = holds (c .before .before .is-line .ensures) (c .before .if1 .left) in
+    rw (some-line, lt-leb (r .length) keptBytes (omega (arith, c .if2 .taken)))
 
 array-share-prefix-line : tie.Need-array-share-prefix-line
 array-share-prefix-line c =
@@ -38,9 +52,11 @@ returns-3 : tie.Need-returns-3
 unfolding readable
 returns-3 c =
     let short = c .before .before .before .before in
+    let r = short .before .before .before .args .r in
+    let some-line : line-test r ≡ true = holds (short .before .before .is-line .ensures) (short .before .if1 .left) in
     rw (
-      holds (short .before .before .is-line .ensures) (short .before .if1 .left),
-      le-leb _ 65 (short .if2 .left),
+      some-line,
+      le-leb (r .length) keptBytes (omega (arith, short .if2 .left)),
       breaks (c .before .no-newline .ensures) (c .if3 .taken),
     )
 
@@ -52,9 +68,11 @@ unfolding readable
 returns-4 c =
     let free = c .before .before in
     let short = free .before .before .before .before in
+    let r = short .before .before .before .args .r in
+    let some-line : line-test r ≡ true = holds (short .before .before .is-line .ensures) (short .before .if1 .left) in
     rw (
-      holds (short .before .before .is-line .ensures) (short .before .if1 .left),
-      le-leb _ 65 (short .if2 .left),
+      some-line,
+      le-leb (r .length) keptBytes (omega (arith, short .if2 .left)),
       holds (free .before .no-newline .ensures) (free .if3 .left),
     ) (c .machine-sound .ensures)
 

@@ -1,4 +1,4 @@
--- `runner::soundness::machine_sound` meets its contract. Assumes nothing.
+-- `runner::soundness::machine_sound` meets its contract.
 use native.Mathlib.Omega.{arith}
 use borrow.Author.Needs.{needs}
 use borrow.Author.Tests.{eq-eqb, ne-eqb, lt-ltb, le-ltb}
@@ -9,7 +9,7 @@ returns : tie.Need-returns
 returns c = rw (eq-eqb _ _ (c .if1 .taken))
 
 returns-2 : tie.Need-returns-2
-returns-2 c = rw (ne-eqb _ _ (c .before .if1 .left), le-ltb 1 _ (c .if2 .taken))
+returns-2 c = rw (ne-eqb _ _ (c .before .if1 .left), le-ltb 1 (c .before .before .before .args .number) (omega (arith, c .if2 .taken)))
 
 sound-requires : tie.Need-sound-requires
 sound-requires c κs = search needs

@@ -1,5 +1,5 @@
 -- `runner::soundness::no_newline` meets its contract. The loop's invariant: a newline, if there is one, is still to come. The measure is the
--- number of bytes to come. Assumes nothing.
+-- number of bytes to come.
 use mathlib.Core.Path.{_≡_, refl, sym, _∙_}
 use Prim.Native.Nat.{_-_}
 use native.Mathlib.Omega.{arith}
