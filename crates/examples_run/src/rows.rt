@@ -1,5 +1,5 @@
 // The examples of document 01 as rows, and what a row stands for. A row is one number, the sum of a code and of the call's numbers,
-// each times its weight: a table of numbers is proved in a second, an array of arrays takes twenty.
+// each times its weight: a table of numbers is proved in a second, an array of arrays takes twenty. `row_at` asks for a row that is there.
 ghost use Prim.Native.Nat.{_<_};
 
 // The weights of a code, a core, a card and a value. A core or a card is below 256, a value below the weight of a card.

@@ -45,11 +45,11 @@ allHold [] = true
 allHold (x ∷ xs) = holds x && allHold xs
 
 infix 20 _⇝_
-abbrev _⇝_ : Call → Answer → Expected
+abbrev pub _⇝_ : Call → Answer → Expected
 c ⇝ a = record { call = c; answer = a }
 
 -- the run of the script; card 1 stays 0
-exampleA : Example
+unfoldable pub exampleA : Example
 exampleA =
     record {
       cores = 2;
