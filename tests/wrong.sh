@@ -57,7 +57,7 @@ wrong "a marked transaction keeps its sets" $commit '/other.*_set = 0;/d' \
 wrong "a commit counts twice" $commit 's/other.aborts += 1/other.aborts += 2/'
 wrong "every commit waits" $commit 's/= self.earlier_in_conflict(c)/= Some(0)/'
 wrong "waits for later ones too" $commit 's/other.ticket < own.ticket/other.ticket != own.ticket/'
-wrong "waits for cores 0 and 1 only" $commit 's/self.present().iter().position/self.present().iter().take(2).position/'
+wrong "waits for cores 0 and 1 only" $commit 's/(0..self.present().len()).find/(0..self.present().len().min(2)).find/'
 wrong "value 0 always" $transaction 's/let value = .*/let value = 0;/'
 wrong "no card is moved" $commit '/committed\[object\] = /d'
 wrong "one setback is invented" $commit 's/Committed(ending.aborts)/Committed(ending.aborts + 1)/'

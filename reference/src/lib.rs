@@ -6,6 +6,7 @@
 //! - the script program: `machine`, `script`, `frame`
 //! - whole runs judged from calls and answers: `checker`, `replay`,
 //!   `listed_runs`
+//! - single calls of a door compared with the machine's: `compared`
 //! - inputs by seed: `random`, `contended`, `scripts`, `choices`, `shrink`
 //!
 //! The code says object for card, abort for setback and zombie for marked.
@@ -17,6 +18,7 @@ pub mod call;
 pub mod calls;
 pub mod checker;
 pub mod choices;
+pub mod compared;
 pub mod contended;
 mod fewest;
 pub mod frame;

@@ -38,10 +38,14 @@ impl Record {
 
     /// The first core that holds a conflicting transaction with a smaller ticket.
     fn earlier_in_conflict(&self, core: usize) -> Option<usize> {
-        let own = &self.core[core];
-        self.present().iter().position(|other| {
-            other.in_progress && other.ticket < own.ticket && own.conflicts_with(other)
-        })
+        (0..self.present().len()).find(|&other| self.is_ahead(core, other))
+    }
+
+    /// Whether the other core holds a conflicting transaction with a smaller
+    /// ticket: any such core may be named by waits.
+    pub fn is_ahead(&self, core: usize, other: usize) -> bool {
+        let (own, other) = (&self.core[core], &self.core[other]);
+        other.in_progress && other.ticket < own.ticket && own.conflicts_with(other)
     }
 
     /// The write set's pending values become committed; each written object's
