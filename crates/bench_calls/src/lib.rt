@@ -1,5 +1,6 @@
 // Lists of calls on one machine, run through the public calls and in place on the record, for bench/. A list is numbers: the
-// lower four bits say what is done, the rest is the core. What a list gives is specs/Lists.antt.
+// lower four bits say what is done, the rest is the core. What a list gives is specs/Lists.antt. `inside_run` asks for a sound record and
+// tables of the right lengths.
 use core::Answer;
 use core::CORES;
 use core::calls::Act;

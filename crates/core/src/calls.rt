@@ -1,5 +1,6 @@
 // What a call gives on its core, once the core and the card are found: the six calls that concern one core, and the part of commit that
-// does. Each promise is an equation with a definition of specs/Calls.antt.
+// does. Each promise is an equation with a definition of specs/Calls.antt. `act_on` asks for a list of at most 8 jobs and, while a transaction
+// is in progress, for a count of give-ups that can rise (`Fits`); `begin`, `give_up` and `finish` for their part of it.
 use crate::Answer;
 use crate::CORES;
 use crate::Core;

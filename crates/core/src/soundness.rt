@@ -1,5 +1,5 @@
 // The soundness test of one core, whatever its fields hold: the standing rules (document 01) that a core keeps by itself. Each promise
-// is an equation with the rules' own definitions in specs/Tidy.antt.
+// is an equation with the rules' own definitions in specs/Tidy.antt. `owner_first` asks that the owner's place is one of the list's.
 use crate::Core;
 use crate::JOBS;
 ghost use mathlib.Core.Path.{_≡_};

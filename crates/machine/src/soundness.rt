@@ -1,5 +1,5 @@
 // The soundness test: whether a record, whatever its fields hold, keeps the standing rules (document 01). Each promise is an
-// equation with the rules' own definitions in specs/Sound.antt.
+// equation with the rules' own definitions in specs/Sound.antt. `turn_kept` asks for one of the sixteen places.
 use crate::Machine;
 use crate::in_range;
 use core::CORES;

@@ -1,6 +1,6 @@
 // Sets of objects (document 01: sets of cards) as 64-bit words: object d is in the set if and only if the word's digit d,
 // of weight 2 to the power d, is 1. A set holds objects from 0 to 63; any other number is outside every set.
-// Each promise is an equation with a definition of specs/Objset.antt that speaks of membership alone.
+// Each promise is an equation with a definition of specs/Objset.antt that speaks of membership alone. `mask` asks for an object from 0 to 63.
 ghost use mathlib.Core.Path.{_≡_};
 ghost use Prim.Native.Nat.{_^_, _<_};
 ghost use Rattle.objset.specs.Objset.{mostObjects, has, none, added, joined, meeting, below};

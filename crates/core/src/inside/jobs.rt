@@ -1,4 +1,4 @@
-// A core's list of jobs: which one runs, a job joins, a job leaves.
+// A core's list of jobs: which one runs, a job joins, a job leaves. Each function asks that the places it is told of are the list's.
 use crate::Core;
 use crate::JOBS;
 use crate::Job;

@@ -1,4 +1,5 @@
 // A transaction's life on its core: begun, told that it was set back, a card joins a set, struck, over; and whether two conflict.
+// `begin` asks for a list of at most 8 jobs, `abort` that the setbacks can rise.
 use crate::Core;
 use crate::inside::jobs::running_of;
 ghost use mathlib.Core.Path.{_≡_};

@@ -1,4 +1,5 @@
 // The calls that concern one core: the core is taken out of the record, the call is made on it, and it is put back.
+// `alone` asks for a sound record, `access` for tables of the right lengths too.
 use crate::Machine;
 use crate::Outcome;
 use core::calls::Act;

@@ -1,5 +1,6 @@
 // A transaction commits (document 01: commit): who is ahead of it, and what its write set changes in the tables, the versions and the
-// other cores.
+// other cores. `commit` asks for a sound record and tables of the right lengths, `write_back` and `strike` for what keeps their indices and
+// sums in range.
 use crate::Machine;
 use crate::Outcome;
 use crate::inside::calls::find;
