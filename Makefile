@@ -4,10 +4,7 @@
 
 # proves and builds `cards` (minutes the first time, nothing after that) and runs it on case A of document 01
 run:
-	@tests/tool.sh rt
-	@mkdir -p build
-	@[ -x target/bin/cards ] || echo "make run: proving and building cards first, which takes some minutes" >&2
-	@rt check cards > build/run.log 2>&1 || { tail -20 build/run.log; exit 1; }
+	@tests/build.sh cards
 	@target/bin/cards < examples/case-a.script
 
 test:
@@ -15,14 +12,11 @@ test:
 
 # the C entry for firmware: build/libcards.a, declared in include/cards.h
 lib:
-	@tests/tool.sh rt
-	@mkdir -p build
-	@rt staticlib entry > build/lib.log 2>&1 || { tail -20 build/lib.log; exit 1; }
-	@cp target/staticlib/libentry.a build/libcards.a
+	@tests/build.sh lib
 
 # the C program over it: build/cards_host
-host: lib
-	@host/build.sh
+host:
+	@tests/build.sh lib host
 
 # the C program that `cards` is measured beside: build/cards_peer
 peer:
@@ -33,7 +27,7 @@ peer:
 
 # more of the comparisons: make fuzz SEED=7 COUNT=100000
 fuzz:
-	@tests/fuzz.sh $(SEED) $(COUNT)
+	@tests/fuzz.sh "$$SEED" "$$COUNT"
 
 # a longer look at the built programs, outside the gate: make soak SEED=7
 soak:

@@ -6,7 +6,7 @@ cd "$(dirname "$0")/.."
 tests/tool.sh gcc
 [ -r build/libcards.a ] || { echo "build.sh: no build/libcards.a; make lib makes it" >&2; exit 1; }
 strict="-Wall -Wextra -Werror -Iinclude"
-sources="host/cards_host.c host/lent.c host/selftest.c host/stack.c"
+sources="host/cards_host.c host/lent.c host/selftest.c host/stack.c host/tasks.c"
 libraries="build/libcards.a -lpthread"
 sanitizers="-fsanitize=address,undefined -fno-sanitize-recover=all"
 

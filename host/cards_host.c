@@ -2,7 +2,7 @@
 //   always enough. A refusal is status 1.
 // cards_host frames: takes scripts on standard input and answers each with its listing, both as a length in four bytes, the lowest
 //   first, and the bytes. Each script is run with outputs of several sizes among canaries; a breach is a line and status 1.
-// cards_host stack FILE: prints how many bytes of stack the script takes.
+// cards_host stack FILE: prints how many bytes of stack the script takes in one pass, in two and where the output is too small.
 // cards_host selftest: calls whose results are known.
 #include "cards.h"
 #include "lent.h"
@@ -97,7 +97,8 @@ static int frames(void) {
 static int stack(const char *name) {
   size_t length;
   uint8_t *script = file_bytes(name, &length);
-  printf("%zu\n", stack_used(script, length));
+  struct stack_need need = stack_need(script, length);
+  printf("one pass %zu, two passes %zu, refused %zu\n", need.one_pass, need.two_passes, need.refused);
   free(script);
   return 0;
 }

@@ -3,6 +3,7 @@
 #include "cards.h"
 #include "lent.h"
 #include "stack.h"
+#include "tasks.h"
 
 #include <stdint.h>
 #include <stdio.h>
@@ -94,13 +95,52 @@ static void known(void) {
   listed("null bytes in lines", nulls, sizeof nulls - 1, "line answer value\n2 refused 11\n3 refused 11\n4 ready -\n");
 }
 
+// Calls while others are under way.
+static void together(void) {
+  const char *fault = in_threads(case_a, listing_a);
+  check(!fault, "several tasks", fault);
+  fault = in_handler(case_a, listing_a);
+  check(!fault, "interrupts", fault);
+}
+
 // Calls stay within the stack of the header.
-static void stack(void) {
-  size_t most = stack_used((const uint8_t *)case_a, strlen(case_a));
-  size_t used = stack_used((const uint8_t *)all_calls, strlen(all_calls));
-  if (most < used) most = used;
-  printf("stack: %zu bytes\n", most);
-  check(most <= CARDS_STACK_ENOUGH, "stack", "more than cards.h says");
+static void stack_of(const char *name, const char *script) {
+  struct stack_need need = stack_need((const uint8_t *)script, strlen(script));
+  printf("stack, %s: one pass %zu, two passes %zu, refused %zu bytes\n", name, need.one_pass, need.two_passes, need.refused);
+  check(need.one_pass <= CARDS_STACK_ENOUGH, name, "one pass takes more stack than cards.h says");
+  check(need.two_passes <= CARDS_STACK_ENOUGH, name, "two passes take more stack than cards.h says");
+  check(need.refused <= CARDS_STACK_ENOUGH, name, "a refused call takes more stack than cards.h says");
+}
+
+// The longest line of a listing is a value in line 1,000,000, and has the 25 bytes of the header; so many lines, and no more, fit.
+static void longest_line(void) {
+  static const char start[] = "call core card value\nsetup 1 1 -\nrelease 0 7 1\nbegin 0 - -\nwrite 0 0 4294967295\n";
+  static const char line[] = "read 0 0 -\n", last[] = "1000000 value 4294967295\n1000001 refused 11\n";
+  const size_t lines = CARDS_LINES_MOST + 4, room = strlen(start) + lines * strlen(line);
+  char *script = malloc(room + 1), *end = script;
+  if (!script) exit(2);
+  end += sprintf(end, "%s", start);
+  for (size_t n = 5; n < lines; n++) end += sprintf(end, "%s", line);
+  struct outcome outcome = run_lent((const uint8_t *)script, (size_t)(end - script), CARDS_OUTPUT_MOST);
+  check(!outcome.fault, "a million lines", outcome.fault ? outcome.fault : "");
+  size_t longest = 0, from = 0;
+  for (size_t at = 0; at < outcome.length; at++) {
+    if (outcome.written[at] != '\n') continue;
+    if (longest < at + 1 - from) longest = at + 1 - from;
+    from = at + 1;
+  }
+  check(longest == 25, "a million lines", "the longest line has not 25 bytes");
+  check(outcome.length > strlen(last) && !memcmp(outcome.written + outcome.length - strlen(last), last, strlen(last)),
+        "a million lines", "other last lines");
+  free(script);
+}
+
+// The header's version as text is its version in numbers, and its largest output is enough for its lines.
+static void header(void) {
+  char version[32];
+  snprintf(version, sizeof version, "%d.%d", CARDS_VERSION_MAJOR, CARDS_VERSION_MINOR);
+  check(!strcmp(version, CARDS_VERSION), "cards.h", "CARDS_VERSION is not its numbers");
+  check(CARDS_OUTPUT_MOST == CARDS_OUTPUT_ENOUGH(CARDS_LINES_MOST), "cards.h", "CARDS_OUTPUT_MOST is another number");
 }
 
 int selftest(void) {
@@ -109,7 +149,11 @@ int selftest(void) {
   every_cut();
   garbage(1);
   garbage(2);
-  stack();
+  together();
+  longest_line();
+  header();
+  stack_of("case A", case_a);
+  stack_of("every call", all_calls);
   printf("host: %d checks, %d failures\n", checks, failures);
   return failures;
 }

@@ -9,49 +9,60 @@
 #include <stdlib.h>
 #include <string.h>
 
-enum { STACK = 1 << 20, FILL = 0xa5 };
+enum { STACK = 1 << 20 };
 
 struct job {
   const uint8_t *script;
   size_t script_length;
   uint8_t *output;
   size_t output_length;
+  const uint8_t *top; // where the caller's frame is
 };
 
 static void *call(void *argument) {
-  const struct job *job = argument;
-  if (job->output) cards_run(job->script, job->script_length, job->output, job->output_length);
+  struct job *job = argument;
+  job->top = __builtin_frame_address(0);
+  cards_run(job->script, job->script_length, job->output, job->output_length);
   return NULL;
 }
 
-// How deep a thread with this job gets into a stack of its own.
-static size_t depth(struct job *job) {
+// Bytes below the caller's frame that a call with an output of this length changes, on a stack filled with one byte.
+static size_t changed(const uint8_t *script, size_t script_length, size_t output_length, uint8_t fill) {
+  struct job job = {script, script_length, malloc(output_length + 1), output_length, NULL};
   pthread_attr_t attributes;
   pthread_t thread;
   uint8_t *stack = aligned_alloc(4096, STACK);
-  if (!stack) exit(2);
-  memset(stack, FILL, STACK);
+  if (!job.output || !stack) exit(2);
+  memset(stack, fill, STACK);
   pthread_attr_init(&attributes);
-  if (pthread_attr_setstack(&attributes, stack, STACK) || pthread_create(&thread, &attributes, call, job) ||
+  if (pthread_attr_setstack(&attributes, stack, STACK) || pthread_create(&thread, &attributes, call, &job) ||
       pthread_join(thread, NULL)) {
     fprintf(stderr, "cards_host: no thread\n");
     exit(2);
   }
   pthread_attr_destroy(&attributes);
   size_t untouched = 0;
-  while (untouched < STACK && stack[untouched] == FILL) untouched++;
+  while (untouched < STACK && stack[untouched] == fill) untouched++;
+  size_t used = (size_t)(job.top - (stack + untouched));
   free(stack);
-  return STACK - untouched;
+  free(job.output);
+  return used;
 }
 
-size_t stack_used(const uint8_t *script, size_t script_length) {
-  struct job nothing = {script, script_length, NULL, 0};
-  struct job run = nothing;
-  run.output_length = CARDS_OUTPUT_ENOUGH(lines_of(script, script_length));
-  run.output = malloc(run.output_length);
-  if (!run.output) exit(2);
-  size_t without = depth(&nothing);
-  size_t with = depth(&run);
-  free(run.output);
-  return with > without ? with - without : 0;
+// The same, touched: a byte that holds the one filling is changed on the other.
+static size_t touched(const uint8_t *script, size_t script_length, size_t output_length) {
+  size_t one = changed(script, script_length, output_length, 0xa5), other = changed(script, script_length, output_length, 0x5a);
+  return one < other ? other : one;
+}
+
+struct stack_need stack_need(const uint8_t *script, size_t script_length) {
+  size_t enough = CARDS_OUTPUT_ENOUGH(lines_of(script, script_length));
+  uint8_t *output = malloc(enough);
+  if (!output) exit(2);
+  // this first call also binds what is bound when it is first called
+  size_t exact = cards_run(script, script_length, output, enough);
+  free(output);
+  struct stack_need need = {touched(script, script_length, enough), touched(script, script_length, exact),
+                            touched(script, script_length, exact - 1)};
+  return need;
 }

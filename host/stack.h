@@ -1,11 +1,16 @@
-// Stack that a call of cards_run takes.
+// Stack that calls of cards_run take.
 #ifndef STACK_H
 #define STACK_H
 
 #include <stddef.h>
 #include <stdint.h>
 
-// Bytes of stack that the call reached, found on a stack filled with a pattern. The listing is thrown away.
-size_t stack_used(const uint8_t *script, size_t script_length);
+// Bytes below the caller's frame that a call touches: into an output that is always enough, into one of the listing's length, and into
+// one that is a byte too small.
+struct stack_need {
+  size_t one_pass, two_passes, refused;
+};
+
+struct stack_need stack_need(const uint8_t *script, size_t script_length);
 
 #endif

@@ -5,18 +5,27 @@
 # far is printed first.
 set -eu
 cd "$(dirname "$0")/.."
-tests/tool.sh rt cargo gcc make
 seed=${1:-$(date +%s)}
 count=${2:-20000}
+usage="usage: make fuzz SEED=NUMBER COUNT=NUMBER"
+[[ $seed =~ ^(0|[1-9][0-9]{0,17})$ ]] || { echo "SEED is a number of at most 18 digits, not '$seed'; $usage" >&2; exit 2; }
+[[ $count =~ ^[1-9][0-9]{0,8}$ ]] || { echo "COUNT is a number of at most 9 digits, from 1, not '$count'; $usage" >&2; exit 2; }
+tests/tool.sh rt cargo gcc make
 compare=reference/target/release/compare
+tests/build.sh cards lib host
 cargo build --quiet --release --offline --manifest-path reference/Cargo.toml
-mkdir -p build
-rt check cards > build/cards.log 2>&1 || { tail -20 build/cards.log; exit 1; }
-make --no-print-directory host
 
-echo "seed $seed, count $count"
-"$compare" --quick --seed "$seed" --count "$count" target/bin/cards
-"$compare" --frames --quick --seed "$seed" --count "$count" build/cards_host frames
-"$compare" --pieces --seed "$seed" --count $((count / 100 + 1)) target/bin/cards
-"$compare" --limit 60 --seed "$seed" --count "$count" target/bin/cards
-"$compare" --frames --limit 60 --seed "$seed" --count "$count" build/cards_host frames
+# compares WHAT OPTIONS.. PROGRAM..: what is compared, then how it went
+compares() {
+  echo "$1:"
+  shift
+  "$compare" --seed "$seed" "$@"
+}
+
+echo "seed $seed, count $count; each listing is compared with that of the second implementation (reference/)"
+few=$((count / 100 + 1))
+compares "target/bin/cards, $count scripts, most of them short" --quick --count "$count" target/bin/cards
+compares "the C entry, the same scripts" --frames --quick --count "$count" build/cards_host frames
+compares "target/bin/cards, $few short scripts, read in pieces of 1, 2, 3, .. 66 bytes" --pieces --count "$few" target/bin/cards
+compares "target/bin/cards, $count scripts of any length" --limit 60 --count "$count" target/bin/cards
+compares "the C entry, the same scripts" --frames --limit 60 --count "$count" build/cards_host frames

@@ -1,6 +1,8 @@
 // Reads a script from standard input to its end and prints its listing (document 01, 'Script and listing'), in constant memory: a
 // chunk of the script, its part of the listing, and the machine. A read or a write that fails ends the run with a line on standard
-// error.
+// error. With an argument nothing is read or listed: a line on standard error says how the program is used. `run` asks
+// for a reading that fits its tables, and room for what may be written.
+use libc::STDERR_FILENO;
 use libc::STDIN_FILENO;
 use libc::STDOUT_FILENO;
 use runner::Reading;
@@ -8,9 +10,18 @@ use runner::inside;
 ghost use mathlib.Core.Path.{_≡_};
 ghost use Prim.Native.Nat.{_≤_};
 ghost use lib.ListN.{length};
-ghost use Rattle.runner.specs.Kept.{Fit};
+ghost use Rattle.runner.specs.Kept.{ReadingFits};
 
 fn main() {
+    if os::arg_count() > 1 {
+        io::write_all(STDERR_FILENO, b"cards: usage: cards < SCRIPT > LISTING\n");
+    } else {
+        list();
+    }
+}
+
+// Lists what the script on standard input is answered.
+fn list() {
     let mut committed = [0u32; 64];
     let mut pending = [0u32; 1024];
     let mut output = io::large_buffer();
@@ -21,10 +32,10 @@ fn main() {
     }
 }
 
-// Runs the script from here to its end, or until nothing more is read. A proved loop has to end, and nothing says that the input does; so the loop counts its turns
-// down, from a number that no run uses up.
+// Runs the script from here to its end, or until nothing more is read. A proved loop has to end, and nothing says that the input
+// does; so the loop counts its turns down, from a number that no run uses up.
 fn run(first: Reading, committed: &mut [u32], pending: &mut [u32], output: &mut [u8])
-    requires { ⌜ Fit first (now committed) (now pending) × (65536 ≤ length (now output)) ⌝ }
+    requires { ⌜ ReadingFits first (now committed) (now pending) × (65536 ≤ length (now output)) ⌝ }
 {
     let mut input = [0u8; 2048];
     let mut reading = first;

@@ -6,13 +6,13 @@ use native.Mathlib.Omega.{arith}
 use lib.ListN.{length}
 use lib.Seq.{length-take-le}
 use borrow.Author.Needs.{needs}
-use Rattle.runner.specs.Kept.{Fit}
+use Rattle.runner.specs.Kept.{ReadingFits}
 use Rattle.cards.proofs.run.Statement.{statement}
 use Rattle.cards.proofs.run.Tie as tie
 
 abbrev Inv-loop : tie.InvT-loop
 Inv-loop committed₀ pending₀ output₀ input₀ reading₀ turns₀ t13 committed pending output input reading turns =
-    Fit reading committed pending
+    ReadingFits reading committed pending
     × (length committed ≡ length committed₀)
     × (length pending ≡ length pending₀)
     × (length output ≡ length output₀)

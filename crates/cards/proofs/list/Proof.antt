@@ -1,4 +1,4 @@
--- `cards::main` is safe: the heading fits the buffer, and the runner starts fit.
+-- `cards::list` is safe: the heading fits the buffer, and the runner starts fit.
 use mathlib.Core.Path.{_≡_, refl, sym, ap, _∙_}
 use Prim.Native.Nat.{_≤_}
 use native.Mathlib.Omega.{arith}
@@ -8,8 +8,8 @@ use borrow.Author.Needs.{needs}
 use Rattle.listing.specs.Text.{heading}
 use Rattle.runner.proofs.Laws.{start-fit}
 use Rattle.listing.proofs.Laws.{fitting-whole}
-use Rattle.cards.proofs.main.Statement.{statement}
-use Rattle.cards.proofs.main.Tie as tie
+use Rattle.cards.proofs.list.Statement.{statement}
+use Rattle.cards.proofs.list.Tie as tie
 
 large-buffer-requires : tie.Need-large-buffer-requires
 large-buffer-requires c κs = search needs
@@ -56,8 +56,8 @@ returns c = search needs
 returns-2 : tie.Need-returns-2
 returns-2 c = search needs
 
-pub main-spec : {M : Type 1} → statement M
-main-spec =
+pub list-spec : {M : Type 1} → statement M
+list-spec =
     tie.close
     (tie.spec
     large-buffer-requires

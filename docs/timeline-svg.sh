@@ -1,0 +1,5 @@
+#!/bin/sh
+# The timeline of docs/timeline.sh as a picture (SVG): sh docs/timeline-svg.sh SCRIPT LISTING > PICTURE
+# Time runs downwards. Every mark has a shape and words of its own; there is no colour.
+form=svg
+. "$(dirname "$0")/timeline.sh"
