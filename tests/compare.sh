@@ -7,18 +7,9 @@ cargo build --quiet --release --offline --manifest-path reference/Cargo.toml || 
 cards=target/bin/cards
 host=build/cards_host
 peer=build/cards_peer
+calls=reference/target/calls/release/compare-calls
 scripts=20000
-work=$(mktemp -d)
-trap 'rm -rf "$work"' EXIT
-passed=0
-failed=0
-
-# check NAME COMMAND..: counts the command's exit status
-check() {
-  local name=$1
-  shift
-  if "$@"; then passed=$((passed + 1)); else failed=$((failed + 1)); echo "failed: $name"; fi
-}
+. tests/count.sh
 
 # prints_examples COMMAND..: the command, with a script as its standard input and as its last word, prints each example's listing
 prints_examples() {
@@ -67,9 +58,20 @@ claims_hold_on_case_a() {
   "$bin/check-run" examples/case-a.listing < examples/case-a.script
 }
 
+# and on runs of cards: machines of several sizes, runs of several shapes
 claims_hold_on_cards() {
-  "$bin/make-script" 10 16 64 20000 > "$work/script"
-  "$cards" < "$work/script" > "$work/listing" && "$bin/check-run" "$work/listing" < "$work/script"
+  local cores objects seed
+  for cores in 1 2 3 4 8 16; do
+    for objects in 1 2 5 64; do
+      for seed in 10 12 15; do
+        "$bin/make-script" $seed $cores $objects 10000 > "$work/script"
+        "$cards" < "$work/script" > "$work/listing" || return 1
+        "$bin/check-run" "$work/listing" < "$work/script" > "$work/claims"
+        grep -qx 'checked 1 runs (9998 calls), 0 claims broken' "$work/claims" ||
+          { echo "make-script $seed $cores $objects 10000:"; head -5 "$work/claims"; return 1; }
+      done
+    done
+  done
 }
 
 # lines COUNT END: a script of so many lines, the last one ended by END
@@ -108,10 +110,37 @@ stops() {
   yes x 2> /dev/null | timeout 10 "$1" > "$work/listing" && printf 'line answer value\n1 refused 11\n' | cmp - "$work/listing"
 }
 
-# the timeline in README.md is case A's
-timeline() {
-  sh docs/timeline.sh examples/case-a.script examples/case-a.listing > "$work/timeline"
-  awk '/^    line  core 0/ { on = 1 } !/^    / { on = 0 } on { sub(/^    /, ""); print }' README.md | cmp - "$work/timeline"
+# the runs in docs/MANUAL.md are what the program prints: the script stands left of the bar, the listing right of it
+manual_runs() {
+  local script count=0
+  rm -f "$work"/manual-*
+  awk -v dir="$work" '
+    /^```run$/ { n++; on = 1; next }
+    /^```$/ { on = 0 }
+    on {
+      bar = index($0, "|"); line = substr($0, 1, bar - 1); sub(/ +$/, "", line)
+      print line > (dir "/manual-" n ".script"); print substr($0, bar + 2) > (dir "/manual-" n ".listing")
+    }' docs/MANUAL.md
+  for script in "$work"/manual-*.script; do
+    "$cards" < "$script" | cmp - "${script%.script}.listing" || return 1
+    count=$((count + 1))
+  done
+  [ "$count" -ge 6 ]
+}
+
+# the calls of Machine behind an exported door, linked with the reference: an archive of its own
+calls_built() {
+  rm -f "$calls"
+  mkdir -p build
+  rt staticlib calls_door > build/calls_door.log 2>&1 || { tail -20 build/calls_door.log; return 1; }
+  CALLS_DOOR=$PWD/target/staticlib/libcalls_door.a cargo build --quiet --release --offline \
+    --manifest-path reference/calls/Cargo.toml --target-dir reference/target/calls
+}
+
+# nothing of that door is in what is delivered
+door_is_apart() {
+  nm target/staticlib/libcalls_door.a | grep -q ' T calls_door$' || { echo "no door in its own archive"; return 1; }
+  nm build/libcards.a "$cards" > "$work/names" && grep -q ' T cards_run$' "$work/names" && ! grep calls_door "$work/names"
 }
 
 # the archive needs no more than cards.h says, and has no variable that could be kept between calls
@@ -136,11 +165,16 @@ check "cards, input in pieces" compares --pieces --seed 1 --count 100 "$cards"
 check "cards, a million lines" by_the_million by_cards
 check "cards, constant memory" streams "$cards"
 check "cards, an input without end" stops "$cards"
-check "the timeline of case A" timeline
-check "claims on a run of cards" claims_hold_on_cards
+check "the runs of the manual" manual_runs
+check "claims on runs of cards" claims_hold_on_cards
+
+check "calls: the door, built" calls_built
+check "calls of Machine, by seed" "$calls" --seed 1 --count 1000
+check "calls: faults are found" "$calls" --faults --seed 1 --count 100
 
 check "C entry: the archive and its host" make --no-print-directory host
 check "C entry: an archive without needs or variables" archive_is_plain
+check "C entry and cards: without the door for calls" door_is_apart
 check "C entry: known calls" "$host" selftest
 check "examples by the C entry" prints_examples by_entry
 check "C entry, scripts of any length" compares --frames --limit 60 --seed 1 --count 300 "$host" frames
@@ -160,5 +194,4 @@ check "peer, a million lines" by_the_million by_peer
 check "peer, constant memory" streams "$peer"
 check "peer, an input without end" stops "$peer"
 
-echo "$passed passed, $failed failed"
-[ "$failed" -eq 0 ]
+counts

@@ -2,12 +2,13 @@
 # Machines that are wrong in crates/core, definition, code and proofs alike, and in machine's rule where it says the same: core is proved,
 # and the claims about whole runs must refuse machine over it. tests/knots/*.edit are must-fail edits with paths that start at crates/.
 # '# claims: NAME NAME ..' names files of crates/machine/proofs, or declarations in them (FILE:declaration), and each must be refused by
-# itself, at a fact: not because something beneath it is, nor at a name that it lacks. An edit may hold several wrong machines, none of
-# which is refused where another must be: '# knot: NAME: words' and a line of claims for each, and no claim twice; without '# knot:' it
-# is one, named as its file. Four edits at a time. Ends in 'N passed, M failed', which counts wrong machines.
+# itself, at a fact (tests/judge.sh). An edit may hold several wrong machines, none of which is refused where another must be: '# knot:
+# NAME: words' and a line of claims for each, and no claim twice; without '# knot:' it is one, named as its file, and its first line says
+# in words what it is. Four edits at a time. Ends in 'N passed, M failed', which counts wrong machines.
 # Usage: tests/knots.sh [LABEL ..]; KEEP=DIR keeps the logs there; EDITS=DIR has other edits (make guards: tests/knots/guards)
 set -u
 cd "$(dirname "$0")/.." || exit 1
+. tests/judge.sh || exit 1
 work=$(mktemp -d)
 trap 'rm -rf "$work"' EXIT
 
@@ -69,36 +70,37 @@ try() {
   grep -q '^logic=not-proved' "$copy/machine.log" || { echo "machine did not reach the prover"; head -n 5 "$copy/machine.log"; }
 }
 
-# refused CLAIM LOG: where the claim is refused by itself at a fact
-refused() {
+# place CLAIM LOG: where the claim is refused by itself at a fact
+place() {
   local name=''
-  case $1 in *:*) name="\`${1#*:}\`: " ;; esac
-  grep -F "/machine/proofs/${1%%:*}.antt:" "$2" | grep -F ": error: $name" |
-    grep -m 1 -vE ' was not admitted | that can be named from here| is not in scope| has no field ' | sed 's/^.*\/crates\///; s/: error: .*//'
+  case $1 in *:*) name=${1#*:} ;; esac
+  refused "$2" "${1%%:*}" "$name"
 }
 
 passed=0
 failed=0
 # flush EDIT ..: waits for those that are being tried, and judges each wrong machine in them
 flush() {
-  local edit label knots claims i wrong claim name
+  local edit label knots claims i wrong claim name said
   wait
   for edit in "$@"; do
     label=$(basename "$edit" .edit)
     mapfile -t knots < <(sed -n 's/^# knot: \([^:]*\): .*/\1/p' "$edit")
     mapfile -t claims < <(sed -n 's/^# claims: *\([^ ]\)/\1/p' "$edit")
     [ "${#knots[@]}" -gt 0 ] || knots=("$label")
+    said=$(head -n 1 "$edit" | grep -E '^# .*[a-z]' | grep -viE '^# *(claims|wrong) *:')
     for i in "${!knots[@]}"; do
       wrong=$(cat "$work/$label.out")
       [ "${#claims[@]}" -eq "${#knots[@]}" ] || wrong="it has not a line of claims for each wrong machine"
       [ -z "$(tr ' ' '\n' <<<"${claims[*]}" | sort | uniq -d)" ] || wrong="it names a claim twice"
+      [ -n "$said" ] || wrong="its first line does not say what wrong machine it makes"
       if [ -z "$wrong" ]; then
-        for claim in ${claims[i]}; do [ -n "$(refused "$claim" "$work/$label/machine.log")" ] || wrong="$wrong $claim"; done
+        for claim in ${claims[i]}; do [ -n "$(place "$claim" "$work/$label/machine.log")" ] || wrong="$wrong $claim"; done
         [ -z "$wrong" ] || wrong="not refused by itself in machine/proofs:$wrong"
       fi
       if [ -z "$wrong" ]; then
         passed=$((passed + 1))
-        echo "${knots[i]}: refused by the claims (first: $(refused "${claims[i]%% *}" "$work/$label/machine.log"))"
+        echo "${knots[i]}: refused by the claims (first: $(place "${claims[i]%% *}" "$work/$label/machine.log"))"
       else
         failed=$((failed + 1))
         echo "${knots[i]}: FAILED"

@@ -31,14 +31,21 @@ counted() {
   if "$@"; then echo "1 passed, 0 failed"; else echo "0 passed, 1 failed"; return 1; fi
 }
 
+# nothing that an earlier run has built is trusted; rt ci does the same with target/
+rm -rf build
+
 # rt waits for a whole batch before it starts the next; with four in a batch no core is idle for long
 part "proofs, must-fail edits and programs (rt ci)" env RT_JOBS="${RT_JOBS:-4}" rt ci
-part "edits of several functions" tests/edits.sh
+part "what each edit makes wrong, judged by its log" tests/edits.sh
 part "edits across crates" tests/knots.sh
 part "layout (rt fmt --check)" counted rt fmt --check
+part "names" tests/names.sh
 part "documents (docs/TRACE.md)" tests/trace.sh
 part "second implementation (reference/)" cargo test --quiet --release --offline --manifest-path reference/Cargo.toml
 part "comparisons" tests/compare.sh
+part "timelines" tests/timeline.sh
+part "README's C program, the header" tests/readme.sh
+part "what is said to who uses it wrongly" tests/usage.sh
 
 echo "$passed passed, $failed failed"
 [ "$failed" -eq 0 ]

@@ -10,9 +10,7 @@ bin=reference/target/release
 work=$(mktemp -d)
 trap 'rm -rf "$work"' EXIT
 cargo build --quiet --release --offline --manifest-path reference/Cargo.toml
-mkdir -p build
-rt check cards > build/cards.log 2>&1 || { tail -20 build/cards.log; exit 1; }
-make --no-print-directory host
+tests/build.sh cards lib host
 
 echo "== scripts of any length, and quick ones: cards"
 "$bin/compare" --limit 60 --seed "$seed" --count 2000 target/bin/cards

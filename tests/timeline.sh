@@ -1,0 +1,149 @@
+#!/usr/bin/env bash
+# The timelines (docs/timeline.sh, docs/timeline-svg.sh), held to stored ones and to the listings. Ends in 'N passed, M failed'.
+set -u
+cd "$(dirname "$0")/.."
+. tests/count.sh
+
+text() { sh docs/timeline.sh "$@"; }
+picture() { sh docs/timeline-svg.sh "$@"; }
+
+# stored EXAMPLE: its timeline is the stored one
+stored() { text "$1.script" "$1.listing" | diff "$1.timeline" -; }
+
+# true_to EXAMPLE: each line of the listing has a row that says its answer, and no other row says one
+true_to() {
+  text "$1.script" "$1.listing" | awk '
+    !/^[0-9]/ || / ENDS \(setup\)/ { next }
+    { said = "-" }
+    match($0, /REFUSED [0-9]+/) { said = "refused " substr($0, RSTART + 8, RLENGTH - 8) }
+    match($0, /ticket [0-9]+/) { said = "begun " substr($0, RSTART + 7, RLENGTH - 7) }
+    match($0, /read card [0-9]+: [0-9]+/) { said = substr($0, RSTART, RLENGTH); sub(/.*: /, "value ", said) }
+    /write card [0-9]+: [0-9]+/ { said = "written -" }
+    / WAITS/ { said = "waits -" }
+    / SET BACK/ { said = "setback -" }
+    match($0, /COMMITS \(set back [0-9]+/) { said = "committed " substr($0, RSTART + 18, RLENGTH - 18) }
+    / GIVES UP/ { said = "ended -" }
+    match($0, /finish: job [0-9]+/) { said = "finished " substr($0, RSTART + 12, RLENGTH - 12) }
+    / release job .*: running/ { said = "running -" }
+    / release job .*: queued/ { said = "queued -" }
+    /^[0-9]+ +setup: .*cards?$/ { said = "ready -" }
+    { print $1, said }' | diff <(tail -n +2 "$1.listing") -
+}
+
+# well_formed: standard input has one root, and each element that is opened is closed in its order; no stray < or &
+well_formed() {
+  awk '
+    { all = all $0 "\n" }
+    END {
+      while (match(all, /<[^<>]*>/)) {
+        before = substr(all, 1, RSTART - 1)
+        tag = substr(all, RSTART + 1, RLENGTH - 2)
+        all = substr(all, RSTART + RLENGTH)
+        gsub(/&(amp|lt|gt);/, "", before)
+        if (before ~ /[<>&]/ || depth == 0 && before ~ /[^ \n]/) bad = 1
+        if (tag ~ /^\//) { if (depth == 0 || open[depth--] != substr(tag, 2)) bad = 1; if (depth == 0) roots++; continue }
+        name = tag
+        sub(/[ \/].*/, "", name)
+        rest = substr(tag, length(name) + 1)
+        closed = sub(/\/$/, "", rest)
+        gsub(/ [A-Za-z:]+="[^"<&]*"/, "", rest)
+        if (rest ~ /[^ ]/ || name !~ /^[a-z]+$/) bad = 1
+        if (!closed) open[++depth] = name
+        else if (depth == 0) roots++
+      }
+      exit bad || depth || roots != 1 || all ~ /[^ \n]/
+    }' "$1" || return 1
+  if command -v python3 > /dev/null; then
+    python3 -c 'import sys, xml.dom.minidom; xml.dom.minidom.parse(sys.argv[1])' "$1" || return 1
+  fi
+}
+
+# drawn EXAMPLE: its picture is well formed, has a title and a size, nothing from elsewhere, and says as often as the text what it says
+drawn() {
+  picture "$1.script" "$1.listing" > "$work/svg" && well_formed "$work/svg" || return 1
+  grep -q '<title>' "$work/svg" && grep -q 'viewBox="0 0 ' "$work/svg" || return 1
+  ! grep -qE 'href|url\(|@import|@font-face' "$work/svg" || return 1
+  local word
+  for word in WAITS 'SET BACK' COMMITS 'GIVES UP' ENDS REFUSED; do
+    [ "$(text "$1.script" "$1.listing" | grep -o "$word" | wc -l)" -eq "$(grep -o "$word" "$work/svg" | wc -l)" ] || return 1
+  done
+}
+
+# a broken picture is seen
+sees_ill_formed() {
+  sed 's|</title>||' docs/case-a.svg > "$work/svg"
+  ! well_formed "$work/svg" 2> /dev/null || return 1
+  sed 's|; time| \& time|' docs/case-a.svg > "$work/svg"
+  ! well_formed "$work/svg" 2> /dev/null
+}
+
+# refuses STATUS WORDS ARGUMENT..: nothing on standard output, one line with these words on standard error, and the status
+refuses() {
+  local status=$1 words=$2 form got
+  shift 2
+  for form in timeline timeline-svg; do
+    sh "docs/$form.sh" "$@" > "$work/out" 2> "$work/error"
+    got=$?
+    [ $got -eq "$status" ] && [ ! -s "$work/out" ] && [ "$(wc -l < "$work/error")" -eq 1 ] && grep -qF -- "$words" "$work/error" ||
+      { echo "$form.sh $*: status $got"; cat "$work/error"; return 1; }
+    [ "$status" -ne 2 ] || grep -qF "usage: sh docs/$form.sh SCRIPT LISTING" "$work/error" || return 1
+  done
+}
+
+# shows SCRIPT LISTING TIMELINE: the three as printf makes them
+shows() {
+  printf "$1" > "$work/script"
+  printf "$2" > "$work/listing"
+  text "$work/script" "$work/listing" | diff <(printf "$3") - && picture "$work/script" "$work/listing" > "$work/svg" &&
+    well_formed "$work/svg"
+}
+
+# the order of the fields makes no difference
+any_order() {
+  awk '{ if (NF == 4) print $4, $2, $3, $1; else print }' examples/every-answer.script > "$work/script"
+  text "$work/script" examples/every-answer.listing | sed 's/"-* *[^"]*"/""/' |
+    diff <(sed 's/"-* *[^"]*"/""/' examples/every-answer.timeline) -
+}
+
+# in_readme: README.md has the timeline of case A and shows its picture
+in_readme() {
+  awk '/^    line  core 0/ { on = 1 } !/^    / { on = 0 } on { sub(/^    /, ""); print }' README.md |
+    diff examples/case-a.timeline - && grep -q '](docs/case-a.svg)' README.md
+}
+
+for script in examples/*.script; do
+  example=${script%.script}
+  check "$example: stored timeline" stored "$example"
+  check "$example: the listing's answers" true_to "$example"
+  check "$example: picture" drawn "$example"
+done
+check "the stored picture of case A" diff docs/case-a.svg <(picture examples/case-a.script examples/case-a.listing)
+check "ill-formed pictures are seen" sees_ill_formed
+check "README" in_readme
+check "any order of the fields" any_order
+
+heading='line answer value\n'
+names='call core card value\n'
+check "bad names" shows 'call core\nsetup 1 1 -\n' "${heading}1 refused 11\n" \
+  'line  no machine\n1     "call core" is no line of names: REFUSED 11, nothing after it is read\n'
+check "an empty script" shows '' "${heading}1 refused 11\n" 'line  no machine\n1     an empty script: REFUSED 11\n'
+check "names alone" shows "$names" "$heading" ''
+check "carriage returns" shows 'call core card value\r\nsetup 1 1 -\r\n' "${heading}1 refused 11\n" \
+  'line  no machine\n1     "call core card value?" is no line of names: REFUSED 11, nothing after it is read\n'
+check "a short listing" shows "${names}setup 1 1 -\nrelease 0 7 1\nbegin 0 - -\nread 0 0 -\n" "${heading}2 ready -\n3 running -\n4 begun 0\n" \
+  'line  core 0                         no core\n2     setup: 1 core, 1 card\n3     release job 7, due 1: running
+4     begin: ticket 0\n5     |                              no answer in the listing from here on\n'
+check "markup in a line" shows "${names}a<b>&\"c\"\n" "${heading}2 refused 11\n" \
+  'line  no machine\n2     "a<b>&"c"": REFUSED 11 (not a call)\n'
+
+check "no argument" refuses 2 usage:
+check "one argument" refuses 2 usage: examples/case-a.script
+check "three arguments" refuses 2 usage: examples/case-a.script examples/case-a.listing x
+check "no such file" refuses 2 "cannot read examples/none.listing" examples/case-a.script examples/none.listing
+check "a folder" refuses 2 "cannot read examples" examples examples/case-a.listing
+check "script and listing exchanged" refuses 1 "does not begin with" examples/case-a.listing examples/case-a.script
+check "another listing" refuses 1 "cannot have been answered" examples/case-a.script examples/case-k.listing
+head -n 3 examples/case-l.script > "$work/head"
+check "a longer listing" refuses 1 "the listing has line 4, and the script has 3 lines" "$work/head" examples/case-l.listing
+
+counts
