@@ -22,8 +22,8 @@ fn main() {
 
 // Lists what the script on standard input is answered.
 fn list() {
-    let mut committed = [0u32; 64];
-    let mut pending = [0u32; 1024];
+    let mut committed = [0u32; runner::COMMITTED_WORDS];
+    let mut pending = [0u32; runner::PENDING_WORDS];
     let mut output = io::large_buffer();
     let k = listing::put_heading(&mut output);
     if written(&output[..k]) {

@@ -9,6 +9,11 @@ ghost use lib.ListN.{length};
 // How many bytes are fed at a time.
 const PIECE: usize = 7;
 
+// Tables that are one word short.
+const SHORT_COMMITTED: usize = runner::COMMITTED_WORDS - 1;
+
+const SHORT_PENDING: usize = runner::PENDING_WORDS - 1;
+
 // The text that they may need.
 const ROOM: usize = PIECE * runner::LINE_ROOM;
 
@@ -73,8 +78,8 @@ fn refused(reading: Reading) {
     let mut committed = [7u32; runner::COMMITTED_WORDS];
     let mut pending = [7u32; runner::PENDING_WORDS];
     let mut text = [0u8; ROOM];
-    let mut short_committed = [7u32; 63];
-    let mut short_pending = [7u32; 1023];
+    let mut short_committed = [7u32; SHORT_COMMITTED];
+    let mut short_pending = [7u32; SHORT_PENDING];
     let mut little = [0u8; 31];
     end(reading, &mut short_committed, &mut pending, &mut text);
     end(reading, &mut committed, &mut short_pending, &mut text);

@@ -5,15 +5,16 @@ use mathlib.Core.List.{List}
 use lib.ListN.{length}
 use Rattle.decimal.specs.Bytes.{byte}
 use Rattle.script.specs.Pieces.{pieces, lines}
+use Rattle.request.specs.Asks.{mostLines}
 use Rattle.runner.specs.Listing.{listing}
 
 -- for a script of so many lines: 18 bytes of heading, and 29 for each line
 abbrev pub enoughFor : ℕ → ℕ
 enoughFor lines = 18 + 29 * lines
 
--- for every script: line 1,000,001 is the last that gets an answer
+-- for every script, 29,000,047: line 1,000,001 is the last that gets an answer
 abbrev pub enoughForAny : ℕ
-enoughForAny = 29000047
+enoughForAny = enoughFor (mostLines + 1)
 
 -- With an output that is enough, the answer is the listing's length, which is never 0: nothing is refused.
 pub record Enough (script output : List ℕ) (answer : ℕ) : Type 0 where

@@ -12,6 +12,11 @@ ghost use Prim.Native.Nat.{_≤_};
 
 mod rows;
 
+// How many words the tables of the largest machine have.
+const COMMITTED_WORDS: usize = objset::OBJECTS;
+
+const PENDING_WORDS: usize = core::CORES * objset::OBJECTS;
+
 // How many words of the two tables a call is lent.
 struct Sizes {
     cards: usize,
@@ -20,8 +25,8 @@ struct Sizes {
 
 // Plays every row on one machine and its tables, which hold sevens until a setup clears them.
 fn main() {
-    let mut committed = [7u32; 64];
-    let mut pending = [7u32; 1024];
+    let mut committed = [7u32; COMMITTED_WORDS];
+    let mut pending = [7u32; PENDING_WORDS];
     // refused, setup hands back the blank record
     let mut machine = Machine::setup(0, 0, &mut committed, &mut pending).machine;
     for i in 0..COUNT {
@@ -33,8 +38,8 @@ fn main() {
 fn play(
     machine: Machine,
     row: Row,
-    committed: &mut [u32; 64],
-    pending: &mut [u32; 1024],
+    committed: &mut [u32; COMMITTED_WORDS],
+    pending: &mut [u32; PENDING_WORDS],
 ) -> Machine {
     match row {
         Row::Call(call) => {
