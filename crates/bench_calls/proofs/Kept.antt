@@ -8,7 +8,7 @@ use Rattle.machine.specs.Rule.{World, Result, lent, rule}
 use Rattle.machine.specs.Inside.{WellFormedWorld}
 use Rattle.machine.specs.OneCore.{callOf}
 use Rattle.machine.proofs.Case.{case-of}
-use Rattle.machine.proofs.Binds.{act-follows}
+use Rattle.machine.proofs.Binds.{follows}
 use Rattle.machine.proofs.Sound.Keeps.{keeps-good}
 use Rattle.core.specs.declared.calls.Act.{Act}
 
@@ -21,5 +21,5 @@ same-lengths m cs ps cs′ ps′ g c p =
       formed = g .formed;
     }
 
-pub one-good : (w : World) → WellFormedWorld w → (a : Act) (c : ℕ) (r : Result) → r ≡ rule 0 w (callOf a c) → WellFormedWorld (r .world)
-one-good w g a c r e = keeps-good (case-of (act-follows w a c (r .answer) (r .world) e)) g
+pub one-good : (w : World) → WellFormedWorld w → (a : Act) (c : ℕ) (r : Result) → r ≡ rule w (callOf a c) → WellFormedWorld (r .world)
+one-good w g a c r e = keeps-good (case-of (follows w (callOf a c) (r .answer) (r .world) e)) g

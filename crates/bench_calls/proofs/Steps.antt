@@ -2,13 +2,11 @@
 use mathlib.Core.Path.{_≡_, refl, sym, ap, subst, _∙_}
 use mathlib.Core.Bool.{Bool, true, false, cond}
 use mathlib.Core.List.{List}
-use Prim.Native.Nat.{ℕ, zero, suc, _+_, _/_}
+use Prim.Native.Nat.{ℕ, _+_, _/_}
 use lib.Dec.{eqb}
 use lib.ListN.{set}
 use borrow.Author.Tests.{ne-eqb}
-use Rattle.machine.specs.Record.{coreAt}
-use Rattle.machine.specs.Rule.{World, Result, lent, left, rule, Release, Begin, Read, Write, Commit, GiveUp, Finish, setup, release, begin, read, write, commit, giveUp, finish, commitRefusal, unlessLent, setBackTold, waiting, through, blocked, changed, moved}
-use Rattle.machine.specs.Answers.{coreNamed}
+use Rattle.machine.specs.Rule.{World, Result, lent, left, rule, Release, Begin, Read, Write, Commit, GiveUp, Finish, setup, release, begin, read, write, commit, giveUp, finish, changed, moved}
 use Rattle.machine.specs.Sound.{sound}
 use Rattle.machine.specs.declared.Machine.{Machine}
 use Rattle.machine.specs.declared.Outcome.{Outcome}
@@ -21,43 +19,13 @@ use Rattle.bench_calls.specs.declared.Ask.{Ask}
 use Rattle.bench_calls.specs.declared.Ask.the-variants as Ask
 use Rattle.bench_calls.specs.Lists.{numberOf, calledBy, askedOf, tested, door}
 
--- what a call left is this, but for the core that waits names
+-- what a call left: the number of its answer, and its world
 abbrev pub Left : Result → Outcome → List ℕ → List ℕ → Type 0
 Left e r cs ps = (numberOf (r .answer) ≡ numberOf (e .answer)) × (lent (r .machine) cs ps ≡ e .world)
-
--- two results with the same number and the same world
-abbrev Alike : Result → Result → Type 0
-Alike a b = (numberOf (a .answer) ≡ numberOf (b .answer)) × (a .world ≡ b .world)
-
-commit-alike : (e : ℕ) (w : World) (c : ℕ) → Alike (commit e w c) (commit 0 w c)
-unfolding commit
-commit-alike e w c = refused (commitRefusal w c) (coreAt (w .machine) c .zombie) (blocked (w .machine) c)
-  where
-    kept : (b : Bool) → Alike (cond b (waiting w e) (through w c)) (cond b (waiting w 0) (through w c))
-    kept true = (refl, refl)
-    kept false = (refl, refl)
-
-    marked : (z b : Bool)
-        → Alike (cond z (setBackTold w c) (cond b (waiting w e) (through w c))) (cond z (setBackTold w c) (cond b (waiting w 0) (through w c)))
-    marked true b = (refl, refl)
-    marked false b = kept b
-
-    refused : (n : ℕ) (z b : Bool)
-        → Alike (unlessLent n w (cond z (setBackTold w c) (cond b (waiting w e) (through w c))))
-        (unlessLent n w (cond z (setBackTold w c) (cond b (waiting w 0) (through w c))))
-    refused zero z b = unfold unlessLent in marked z b
-    refused (suc n) z b = unfold unlessLent in (refl, refl)
 
 -- a call that is lent both tables
 by-result : (e : Result) (r : Outcome) (cs ps : List ℕ) → left r cs ps ≡ e → Left e r cs ps
 by-result e r cs ps p = (ap (λ (x : Result). numberOf (x .answer)) p, ap (λ (x : Result). x .world) p)
-
--- commit, whose answer may name another core
-by-commit : (w : World) (c : ℕ) (r : Outcome) (cs ps : List ℕ) → left r cs ps ≡ commit (coreNamed (r .answer)) w c → Left (commit 0 w c) r cs ps
-by-commit w c r cs ps p =
-    let l = by-result (commit (coreNamed (r .answer)) w c) r cs ps p in
-    let alike = commit-alike (coreNamed (r .answer)) w c in
-    (l .0 ∙ alike .0, l .1 ∙ alike .1)
 
 -- a call that is lent none
 by-outcome : (o r : Outcome) (cs ps : List ℕ) → r ≡ o → Left (left o cs ps) r cs ps
@@ -93,8 +61,8 @@ module _ (other : Result) (m : Machine) (cs ps : List ℕ) (call c : ℕ) (r : O
     write-done e p =
         subst (λ (n : ℕ). Left (calledBy other w n c) r cs′ ps′) (sym e) (unfold calledBy rule in by-result (write w c c 5) r cs′ ps′ p)
 
-    pub commit-done : call ≡ 7 → left r cs′ ps′ ≡ commit (coreNamed (r .answer)) w c → Left (calledBy other w call c) r cs′ ps′
-    commit-done e p = subst (λ (n : ℕ). Left (calledBy other w n c) r cs′ ps′) (sym e) (unfold calledBy rule in by-commit w c r cs′ ps′ p)
+    pub commit-done : call ≡ 7 → left r cs′ ps′ ≡ commit w c → Left (calledBy other w call c) r cs′ ps′
+    commit-done e p = subst (λ (n : ℕ). Left (calledBy other w n c) r cs′ ps′) (sym e) (unfold calledBy rule in by-result (commit w c) r cs′ ps′ p)
 
 -- a public call: setup, and each of the others
 module _ (m : Machine) (cs ps : List ℕ) (call c : ℕ) (r : Outcome) (cs′ ps′ : List ℕ) where
@@ -128,8 +96,8 @@ tested-left m cs ps r p = ap (λ (x : Outcome). left x cs ps) p
 
 -- what is asked for gives; no call gives `other`
 abbrev byAsk : Result → World → ℕ → Ask → Result
-byAsk other w c (Ask.One a) = rule 0 w (callOf a c)
-byAsk other w c Ask.Commit = rule 0 w (Commit c)
+byAsk other w c (Ask.One a) = rule w (callOf a c)
+byAsk other w c Ask.Commit = rule w (Commit c)
 byAsk other w c Ask.Nothing = other
 
 asked-gives : (other : Result) (w : World) (call c : ℕ) → byAsk other w c (askedOf call c) ≡ calledBy other w call c
@@ -142,11 +110,11 @@ asked-gives other w call c = go (eqb call 3) (eqb call 4) (eqb call 5) (eqb call
         (cond four (Ask.One Act.Begin)
         (cond five (Ask.One (Act.Read (c / 2 + 32)))
         (cond six (Ask.One (Act.Write c 5)) (cond seven Ask.Commit (cond eight (Ask.One Act.GiveUp) (cond nine (Ask.One Act.Finish) Ask.Nothing)))))))
-        ≡ cond three (rule 0 w (Release c 7 100))
-        (cond four (rule 0 w (Begin c))
-        (cond five (rule 0 w (Read c (c / 2 + 32)))
-        (cond six (rule 0 w (Write c c 5))
-        (cond seven (rule 0 w (Commit c)) (cond eight (rule 0 w (GiveUp c)) (cond nine (rule 0 w (Finish c)) other))))))
+        ≡ cond three (rule w (Release c 7 100))
+        (cond four (rule w (Begin c))
+        (cond five (rule w (Read c (c / 2 + 32)))
+        (cond six (rule w (Write c c 5))
+        (cond seven (rule w (Commit c)) (cond eight (rule w (GiveUp c)) (cond nine (rule w (Finish c)) other))))))
     go true four five six seven eight nine = refl
     go false true five six seven eight nine = refl
     go false false true six seven eight nine = refl
@@ -163,11 +131,11 @@ module _ (other : Result) (m : Machine) (cs ps : List ℕ) (call c : ℕ) (r : O
   by-asked : (a : Ask) → askedOf call c ≡ a → Left (byAsk other was c a) r cs′ ps′ → Left (calledBy other was call c) r cs′ ps′
   by-asked a is = subst (λ (e : Result). Left e r cs′ ps′) (sym (ap (byAsk other was c) is) ∙ asked-gives other was call c)
 
-  pub one-done : (a : Act) → askedOf call c ≡ Ask.One a → left r cs′ ps′ ≡ rule 0 was (callOf a c) → Left (calledBy other was call c) r cs′ ps′
-  one-done a is p = by-asked (Ask.One a) is (by-result (rule 0 was (callOf a c)) r cs′ ps′ p)
+  pub one-done : (a : Act) → askedOf call c ≡ Ask.One a → left r cs′ ps′ ≡ rule was (callOf a c) → Left (calledBy other was call c) r cs′ ps′
+  one-done a is p = by-asked (Ask.One a) is (by-result (rule was (callOf a c)) r cs′ ps′ p)
 
-  pub commit-asked : askedOf call c ≡ Ask.Commit → left r cs′ ps′ ≡ commit (coreNamed (r .answer)) was c → Left (calledBy other was call c) r cs′ ps′
-  commit-asked is p = by-asked Ask.Commit is (unfold rule in by-commit was c r cs′ ps′ p)
+  pub commit-asked : askedOf call c ≡ Ask.Commit → left r cs′ ps′ ≡ commit was c → Left (calledBy other was call c) r cs′ ps′
+  commit-asked is p = by-asked Ask.Commit is (unfold rule in by-result (commit was c) r cs′ ps′ p)
 
   pub nothing-asked : askedOf call c ≡ Ask.Nothing → left r cs′ ps′ ≡ other → Left (calledBy other was call c) r cs′ ps′
   nothing-asked is p = by-asked Ask.Nothing is (by-result other r cs′ ps′ p)

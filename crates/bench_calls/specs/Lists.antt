@@ -13,7 +13,7 @@ use Rattle.machine.specs.Answers.{kind}
 use Rattle.machine.specs.Sound.{sound}
 use Rattle.machine.specs.Rule.{World, Result, withMachine, setup, rule, Release, Begin, Read, Write, Commit, GiveUp, Finish}
 
--- the number of an answer; it does not show the core that waits names
+-- the number of an answer
 abbrev pub numberOf : Answer → ℕ
 numberOf Ready = 1
 numberOf Running = 2
@@ -30,16 +30,16 @@ numberOf (Refused n) = 10
 
 -- ---- one call
 
--- a call after setup by its rule, the core that waits names here 0; another number gives `other`
+-- a call after setup by its rule; another number gives `other`
 unfoldable pub calledBy : Result → World → ℕ → ℕ → Result
 calledBy other w call c =
-    cond (eqb call 3) (rule 0 w (Release c 7 100))
-    (cond (eqb call 4) (rule 0 w (Begin c))
-    (cond (eqb call 5) (rule 0 w (Read c (c / 2 + 32)))
-    (cond (eqb call 6) (rule 0 w (Write c c 5))
-    (cond (eqb call 7) (rule 0 w (Commit c))
-    (cond (eqb call 8) (rule 0 w (GiveUp c))
-    (cond (eqb call 9) (rule 0 w (Finish c)) other))))))
+    cond (eqb call 3) (rule w (Release c 7 100))
+    (cond (eqb call 4) (rule w (Begin c))
+    (cond (eqb call 5) (rule w (Read c (c / 2 + 32)))
+    (cond (eqb call 6) (rule w (Write c c 5))
+    (cond (eqb call 7) (rule w (Commit c))
+    (cond (eqb call 8) (rule w (GiveUp c))
+    (cond (eqb call 9) (rule w (Finish c)) other))))))
 
 -- what such a number asks for, for core c
 unfoldable pub askedOf : ℕ → ℕ → Ask

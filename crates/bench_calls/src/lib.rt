@@ -44,7 +44,7 @@ const GIVE_UP: u32 = 8;
 
 const FINISH: u32 = 9;
 
-// A number for an answer; it does not show the core that waits names.
+// A number for an answer.
 fn number_of(answer: Answer) -> u32
     ensures { λ r. ⌜ r ≡ numberOf answer ⌝ }
 {

@@ -137,7 +137,7 @@ pub record Fits (k : Core) (s : Seen) : Type 0 where
   pub few-jobs : k .count ≤ mostJobs
   pub one-more : k .active ≡ true → s .«give_ups» < 4294967295
 
--- ---- commit, on its own core; e is the core that holds it back, 16 or more where none does
+-- ---- commit, on its own core; e is the core that is first ahead of it, 16 or more where none is
 
 -- it does not go through: the write set that it commits is empty
 abbrev pub stays : Core → Answer → Settled

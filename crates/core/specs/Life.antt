@@ -98,6 +98,10 @@ over k = idle (k .jobs) (k .count)
 abbrev pub conflicting : Core → Core → Bool
 conflicting a b = meeting (a .writes) (dataSet b) || meeting (b .writes) (dataSet a)
 
+-- core b holds a transaction that conflicts with core a's and has a smaller ticket than t
+abbrev pub conflictsBelow : ℕ → Core → Core → Bool
+conflictsBelow t b a = b .active && ltb (b .ticket) t && conflicting a b
+
 -- core b holds a conflicting transaction with a smaller ticket than core a's
 abbrev pub holdsBack : Core → Core → Bool
-holdsBack b a = b .active && ltb (b .ticket) (a .ticket) && conflicting a b
+holdsBack b a = conflictsBelow (a .ticket) b a

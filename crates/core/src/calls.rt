@@ -228,8 +228,8 @@ fn staying(k: Core, answer: Answer) -> Settled
 }
 
 // What a commit gives on its own core: a refusal that is known before, of that number; 9 none in progress; a marked transaction is told
-// that it was set back; one that is held back, by core `ahead`, waits; any other is over and its write set is committed. From NOBODY on
-// `ahead` is no core.
+// that it was set back; one that is held back, first by core `ahead`, waits and names it; any other is over and its write set is committed.
+// From NOBODY on `ahead` is no core.
 pub fn settle(refusal: u8, k: Core, ahead: u8) -> Settled
     ensures { λ r. ⌜ r ≡ commitOn refusal k ahead ⌝ }
 {

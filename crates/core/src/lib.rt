@@ -50,7 +50,7 @@ pub enum Answer {
     // the value and the committed version
     Value(u32, u32),
     Written,
-    // the core of a conflicting transaction with a smaller ticket
+    // the core of the conflicting transaction with the smallest ticket
     Waits(u8),
     // the count of aborts (document 01: setbacks)
     Committed(u8),

@@ -1,4 +1,4 @@
--- The starred examples of document 01, and K, as one table: a setup, the calls after it with their answers, and the cards at the
+-- The starred examples of document 01, K, and the case of paper 1, as one table: a setup, the calls after it with their answers, and the cards at the
 -- end. One computed test proves the whole table.
 use mathlib.Core.Path.{_≡_, refl}
 use mathlib.Core.Bool.{Bool, true, _&&_}
@@ -11,8 +11,8 @@ use Rattle.core.specs.declared.Answer.the-variants.{Ready, Running, Queued, Beg
 use Rattle.machine.specs.Record.{tally}
 use Rattle.core.specs.Parts.{least, running}
 use Rattle.machine.specs.Sound.{inRange, setsWithin, ownerListed, idleClear, zombieEmpty, fewJobs, unusedJobs, lackedCores, lackedObjects, ownerFirst, ticketsDiffer, ticketsGiven, ticketsCounted, versionsBounded, smallerTickets, abortsBounded, sound}
-use Rattle.machine.specs.Answers.{kind, values, coreNamed, sameList, sameAnswer}
-use Rattle.machine.specs.Rule.{World, Result, unless, unlessLent, setup, released, release, begun, begin, setBackTold, accessRefusal, valueRead, valued, read, written, write, contender, blocked, cleared, changed, through, commitRefusal, commit, ended, giveUp, finished, finish, rule, Call, Release, Begin, Read, Write, Commit, GiveUp, Finish}
+use Rattle.machine.specs.Answers.{kind, values, sameList, sameAnswer}
+use Rattle.machine.specs.Rule.{World, Result, unless, unlessLent, setup, released, release, begun, begin, setBackTold, accessRefusal, valueRead, valued, read, written, write, contender, blocked, leastBy, cleared, changed, through, commitRefusal, commit, ended, giveUp, finished, finish, rule, Call, Release, Begin, Read, Write, Commit, GiveUp, Finish}
 use Rattle.core.specs.Calls.{first}
 use Rattle.core.specs.Life.{struckBy}
 
@@ -32,7 +32,7 @@ pub record Example : Type 0 where
 unfoldable pub follows : World → List Expected → List ℕ → Bool
 follows w [] cards = sameList (w .committed) cards
 follows w (x ∷ xs) cards =
-    let r : Result = rule (coreNamed (x .answer)) w (x .call) in
+    let r : Result = rule w (x .call) in
     sameAnswer (r .answer) (x .answer) && follows (r .world) xs cards
 
 unfoldable pub holds : Example → Bool
@@ -184,11 +184,29 @@ exampleK =
       cards = 0 ∷ [];
     }
 
+-- paper 1: three earlier ones are in conflict with the one on core 1, on cores 2, 0 and 3 in the order of their tickets; the one on core 4 is
+-- the first of all and not in conflict, the one on core 5 is in conflict and later
+firstInTheWay : Example
+firstInTheWay =
+    record {
+      cores = 6;
+      objects = 2;
+      ready = Ready;
+      calls =
+          (Release 0 1 90 ⇝ Running) ∷ (Release 1 2 90 ⇝ Running) ∷ (Release 2 3 90 ⇝ Running) ∷ (Release 3 4 90 ⇝ Running)
+          ∷ (Release 4 5 90 ⇝ Running) ∷ (Release 5 6 90 ⇝ Running) ∷ (Begin 4 ⇝ Begun 0) ∷ (Begin 2 ⇝ Begun 1) ∷ (Begin 0 ⇝ Begun 2)
+          ∷ (Begin 3 ⇝ Begun 3) ∷ (Begin 1 ⇝ Begun 4) ∷ (Begin 5 ⇝ Begun 5) ∷ (Read 4 1 ⇝ Value 0 0) ∷ (Read 2 0 ⇝ Value 0 0)
+          ∷ (Read 0 0 ⇝ Value 0 0) ∷ (Read 3 0 ⇝ Value 0 0) ∷ (Write 1 0 5 ⇝ Written) ∷ (Read 5 0 ⇝ Value 0 0)
+          ∷ (Commit 1 ⇝ Waits 2) ∷ (Commit 2 ⇝ Committed 0) ∷ (Commit 1 ⇝ Waits 0) ∷ (Commit 0 ⇝ Committed 0)
+          ∷ (Commit 1 ⇝ Waits 3) ∷ (Commit 3 ⇝ Committed 0) ∷ (Commit 1 ⇝ Committed 0) ∷ (Commit 5 ⇝ SetBack) ∷ [];
+      cards = 5 ∷ 0 ∷ [];
+    }
+
 pub examples : List Example
 examples =
     (exampleA ∷ exampleB) ++ exampleC
-    ++ (exampleD ∷ exampleE ∷ exampleF ∷ exampleG ∷ exampleH ∷ exampleI ∷ exampleJ ∷ exampleK ∷ [])
+    ++ (exampleD ∷ exampleE ∷ exampleF ∷ exampleG ∷ exampleH ∷ exampleI ∷ exampleJ ∷ exampleK ∷ firstInTheWay ∷ [])
 
 pub all-hold : allHold examples ≡ true
-unfolding examples exampleA refusedSetup acceptedSetup exampleB exampleC exampleD exampleE exampleF bothBegun exampleG exampleH exampleI exampleJ exampleK allHold holds follows rule setup first unless unlessLent released release begun begin setBackTold accessRefusal valueRead valued read written write contender blocked struckBy cleared changed through commitRefusal commit ended giveUp finished finish kind values coreNamed sameList sameAnswer tally least running inRange setsWithin ownerListed idleClear zombieEmpty fewJobs unusedJobs lackedCores lackedObjects ownerFirst ticketsDiffer ticketsGiven ticketsCounted versionsBounded smallerTickets abortsBounded sound has collect some each none added joined meeting below
+unfolding examples exampleA refusedSetup acceptedSetup exampleB exampleC exampleD exampleE exampleF bothBegun exampleG exampleH exampleI exampleJ exampleK firstInTheWay allHold holds follows rule setup first unless unlessLent released release begun begin setBackTold accessRefusal valueRead valued read written write contender blocked leastBy struckBy cleared changed through commitRefusal commit ended giveUp finished finish kind values sameList sameAnswer tally least running inRange setsWithin ownerListed idleClear zombieEmpty fewJobs unusedJobs lackedCores lackedObjects ownerFirst ticketsDiffer ticketsGiven ticketsCounted versionsBounded smallerTickets abortsBounded sound has collect some each none added joined meeting below
 all-hold = refl

@@ -11,18 +11,16 @@ use Rattle.core.specs.Calls.{first}
 use Rattle.core.specs.Life.{struckBy}
 use Rattle.machine.specs.Record.{tally}
 use Rattle.machine.specs.Sound.{inRange, setsWithin, ownerListed, idleClear, zombieEmpty, fewJobs, unusedJobs, lackedCores, lackedObjects, ownerFirst, ticketsDiffer, ticketsGiven, ticketsCounted, versionsBounded, smallerTickets, abortsBounded, sound}
-use Rattle.machine.specs.Rule.{World, Result, Call, Release, Begin, Read, Write, Commit, GiveUp, coreOf, unless, unlessLent, setup, released, release, begun, begin, setBackTold, accessRefusal, valueRead, valued, read, written, write, contender, blocked, leastOf, firstAhead, cleared, changed, through, commitRefusal, commit, ended, giveUp, finished, finish, rule}
+use Rattle.machine.specs.Rule.{World, Result, Call, Release, Begin, Read, Write, Commit, GiveUp, unless, unlessLent, setup, released, release, begun, begin, setBackTold, accessRefusal, valueRead, valued, read, written, write, contender, blocked, leastBy, cleared, changed, through, commitRefusal, commit, ended, giveUp, finished, finish, rule}
 use Rattle.machine.specs.Words.{Event}
 use Rattle.machine.specs.Claims.{Run, fresh, then}
-use Rattle.machine.proofs.CanFollow.{rule-follows, first-contends}
 use Rattle.examples_run.proofs.Examples.{Expected, _⇝_, exampleA}
 
--- the events, newest first, of calls played from the world w: each gets the answer that the rule gives, and the core that waits names is
--- the least that it may name
+-- the events, newest first, of calls played from the world w: each gets the answer that the rule gives
 unfoldable pub played : World → List Event → List Call → List Event
 played w es [] = es
 played w es (x ∷ xs) =
-    let r : Result = rule (firstAhead (w .machine) (coreOf x)) w x in
+    let r : Result = rule w x in
     played (r .world) (record { call = x; answer = r .answer } ∷ es) xs
 
 -- what is played is a run
@@ -30,10 +28,8 @@ pub played-runs : (w₀ w : World) (es : List Event) → Run w₀ es w → (xs :
 unfolding played
 played-runs w₀ w es run [] = (w, run)
 played-runs w₀ w es run (x ∷ xs) =
-    let e = firstAhead (w .machine) (coreOf x) in
-    let r : Result = rule e w x in
-    played-runs w₀ (r .world) (record { call = x; answer = r .answer } ∷ es)
-    (then x (r .answer) run (rule-follows e w x (first-contends (w .machine) (coreOf x)))) xs
+    let r : Result = rule w x in
+    played-runs w₀ (r .world) (record { call = x; answer = r .answer } ∷ es) (then x (r .answer) run (record { answer-is = refl; world-is = refl })) xs
 
 -- of calls with their answers, oldest first: the calls, and the events, newest first
 abbrev pub calls : List Expected → List Call
@@ -86,5 +82,5 @@ tightRun = opening ++ tight ++ last ++ afterwards
 
 pub both-played : (played (start 2 2) [] (calls (exampleA .calls)) ≡ events [] (exampleA .calls))
     × (played (start 2 1) [] (calls tightRun) ≡ events [] tightRun)
-unfolding exampleA opening tight last afterwards played events rule setup first unless unlessLent released release begun begin setBackTold accessRefusal valueRead valued read written write contender blocked leastOf struckBy cleared changed through commitRefusal commit ended giveUp finished finish tally least running inRange setsWithin ownerListed idleClear zombieEmpty fewJobs unusedJobs lackedCores lackedObjects ownerFirst ticketsDiffer ticketsGiven ticketsCounted versionsBounded smallerTickets abortsBounded sound has collect some each none added joined meeting below
+unfolding exampleA opening tight last afterwards played events rule setup first unless unlessLent released release begun begin setBackTold accessRefusal valueRead valued read written write contender blocked leastBy struckBy cleared changed through commitRefusal commit ended giveUp finished finish tally least running inRange setsWithin ownerListed idleClear zombieEmpty fewJobs unusedJobs lackedCores lackedObjects ownerFirst ticketsDiffer ticketsGiven ticketsCounted versionsBounded smallerTickets abortsBounded sound has collect some each none added joined meeting below
 both-played = (refl, refl)

@@ -1,4 +1,4 @@
-// Runs the eight calls over the rows of document 01's examples, and writes each answer with its value in the words of
+// Runs the eight calls over the rows of the documents' examples, and writes each answer with its value in the words of
 // the document's listing: a heading for each example, a line for each call.
 use crate::rows::COUNT;
 use crate::rows::Call;
@@ -128,7 +128,7 @@ fn show(answer: Answer) {
         Answer::Begun(ticket) => write_with(b"begun ", ticket),
         Answer::Value(value, _) => write_with(b"value ", value),
         Answer::Written => write(b"written -\n"),
-        Answer::Waits(_) => write(b"waits -\n"),
+        Answer::Waits(core) => write_with(b"waits ", core as u32),
         Answer::Committed(setbacks) => write_with(b"committed ", setbacks as u32),
         Answer::SetBack => write(b"setback -\n"),
         Answer::Ended => write(b"ended -\n"),

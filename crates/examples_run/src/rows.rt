@@ -1,4 +1,4 @@
-// The examples of document 01 as rows, and what a row stands for. A row is one number, the sum of a code and of the call's numbers,
+// The examples of document 01 and of paper 1 as rows, and what a row stands for. A row is one number, the sum of a code and of the call's numbers,
 // each times its weight: a table of numbers is proved in a second, an array of arrays takes twenty. `row_at` asks for a row that is there.
 ghost use Prim.Native.Nat.{_<_};
 
@@ -20,7 +20,7 @@ const JOB: u64 = CARD;
 
 const DEADLINE: u64 = VALUE;
 
-// The codes: the eight calls, the heading of an example (its letter is the value), and the committed values.
+// The codes: the eight calls, the heading of an example (its letter or number is the value), and the committed values.
 const SETUP: u64 = 0 * CODE;
 
 const RELEASE: u64 = 1 * CODE;
@@ -45,9 +45,9 @@ const SHOW_CARDS: u64 = 9 * CODE;
 const LARGEST: u64 = 4_294_967_295;
 
 // How many rows there are.
-pub const COUNT: usize = 107;
+pub const COUNT: usize = 136;
 
-// The examples, A to L.
+// The examples, A to L and 1.
 const ROWS: [u64; COUNT] = [
     // the run of the document's script; card 1 stays 0
     HEADING + b'A' as u64,
@@ -168,6 +168,37 @@ const ROWS: [u64; COUNT] = [
     SETUP + 1 * CORES + 1 * CARDS,
     WRITE + 0 * CORE + 0 * CARD + 4_294_967_295 * VALUE,
     WRITE + 0 * CORE + 0 * CARD + 4_294_967_296 * VALUE,
+    // who is first in the way: three earlier ones are in conflict, on cores 2, 0 and 3 in the order of their tickets; the one on core 4 is the
+    // first of all and not in conflict, the one on core 5 is in conflict and later
+    HEADING + b'1' as u64,
+    SETUP + 6 * CORES + 2 * CARDS,
+    RELEASE + 0 * CORE + 1 * JOB + 90 * DEADLINE,
+    RELEASE + 1 * CORE + 2 * JOB + 90 * DEADLINE,
+    RELEASE + 2 * CORE + 3 * JOB + 90 * DEADLINE,
+    RELEASE + 3 * CORE + 4 * JOB + 90 * DEADLINE,
+    RELEASE + 4 * CORE + 5 * JOB + 90 * DEADLINE,
+    RELEASE + 5 * CORE + 6 * JOB + 90 * DEADLINE,
+    BEGIN + 4 * CORE,
+    BEGIN + 2 * CORE,
+    BEGIN + 0 * CORE,
+    BEGIN + 3 * CORE,
+    BEGIN + 1 * CORE,
+    BEGIN + 5 * CORE,
+    READ + 4 * CORE + 1 * CARD,
+    READ + 2 * CORE + 0 * CARD,
+    READ + 0 * CORE + 0 * CARD,
+    READ + 3 * CORE + 0 * CARD,
+    WRITE + 1 * CORE + 0 * CARD + 5 * VALUE,
+    READ + 5 * CORE + 0 * CARD,
+    COMMIT + 1 * CORE,
+    COMMIT + 2 * CORE,
+    COMMIT + 1 * CORE,
+    COMMIT + 0 * CORE,
+    COMMIT + 1 * CORE,
+    COMMIT + 3 * CORE,
+    COMMIT + 1 * CORE,
+    COMMIT + 5 * CORE,
+    SHOW_CARDS,
 ];
 
 // One of the eight calls.
@@ -193,7 +224,7 @@ pub enum Row {
 
 // The row at a place of the table.
 pub fn row_at(at: usize) -> Row
-    requires { ⌜ at < 107 ⌝ }
+    requires { ⌜ at < 136 ⌝ }
 {
     decode(ROWS[at])
 }

@@ -34,7 +34,7 @@ word (Refused n) = ascii "refused"
 abbrev pub dash : List ℕ
 dash = ascii "-"
 
--- the text of the value: begin's ticket, read's value, commit's setbacks, finish's job, refusal's number, else `-`
+-- the text of the value: begin's ticket, read's value, the core that waits names, commit's setbacks, finish's job, refusal's number, else `-`
 abbrev pub valueText : Answer → List ℕ
 valueText Ready = dash
 valueText Running = dash
@@ -42,7 +42,7 @@ valueText Queued = dash
 valueText (Begun t) = spelling t
 valueText (Value v n) = spelling v
 valueText Written = dash
-valueText (Waits c) = dash
+valueText (Waits c) = spelling c
 valueText (Committed n) = spelling n
 valueText SetBack = dash
 valueText Ended = dash

@@ -68,7 +68,7 @@ fn said_of(answer: Answer) -> Said
         Answer::Begun(ticket) => Said(*b" begun     ", 7, Field::Number(ticket)),
         Answer::Value(value, _) => Said(*b" value     ", 7, Field::Number(value)),
         Answer::Written => Said(*b" written   ", 9, Field::Dash),
-        Answer::Waits(_) => Said(*b" waits     ", 7, Field::Dash),
+        Answer::Waits(core) => Said(*b" waits     ", 7, Field::Number(core as u32)),
         Answer::Committed(setbacks) => Said(*b" committed ", 11, Field::Number(setbacks as u32)),
         Answer::SetBack => Said(*b" setback   ", 9, Field::Dash),
         Answer::Ended => Said(*b" ended     ", 7, Field::Dash),
@@ -98,6 +98,11 @@ fn put_number(n: u32, output: &mut [u8], at: usize) -> usize
 {
     let mut scratch = [0u8; 10];
     let digits = decimal::print(n, &mut scratch);
+    // a single digit is copied by itself: of the loop in put_bytes the compiler makes a call of memcpy
+    if digits.len() == 1 {
+        let digit = [digits[0]];
+        return put_bytes(output, at, &digit);
+    }
     put_bytes(output, at, digits)
 }
 

@@ -17,12 +17,13 @@ use Rattle.machine.specs.declared.Outcome.{Outcome}
 use Rattle.machine.specs.Record.{coreAt, activeAt, sizesInRange, blank}
 use Rattle.core.specs.Parts.{dataSet}
 use Rattle.machine.specs.Sound.{sound}
-use Rattle.machine.specs.Answers.{kind, coreNamed}
+use Rattle.machine.specs.Answers.{kind}
 use Rattle.machine.specs.Follows.{Follows}
-use Rattle.machine.specs.Rule.{World, Result, lent, withMachine, unless, unlessLent, outOfRange, misfit, newWorld, setup, unsound, wrongTables, noSuchCore, noSuchObject, fullList, jobless, ticketsSpent, released, release, begun, begin, setBackTold, accessRefusal, valued, read, written, write, contender, blocked, through, waiting, commitRefusal, commit, ended, giveUp, finished, finish, rule, Call, Release, Begin, Read, Write, Commit, GiveUp, Finish, coreOf}
+use Rattle.machine.specs.Rule.{World, Result, lent, withMachine, unless, unlessLent, outOfRange, misfit, newWorld, setup, unsound, wrongTables, noSuchCore, noSuchObject, fullList, jobless, ticketsSpent, released, release, begun, begin, setBackTold, accessRefusal, valued, read, written, write, contender, blocked, firstAhead, through, waiting, commitRefusal, commit, ended, giveUp, finished, finish, rule, Call, Release, Begin, Read, Write, Commit, GiveUp, Finish}
 use Rattle.core.specs.Calls.{first}
 use Rattle.core.specs.Life.{conflicting, isStruck}
 use Rattle.machine.proofs.Refusals.{passed}
+use Rattle.machine.proofs.Least.{Least, least}
 
 -- the record is sound and the core is one of the machine's
 pub record Core-ok (m : Machine) (c : ℕ) : Type 0 where
@@ -55,6 +56,14 @@ contends m c e p =
       both-right (active && less) (conflicting (coreAt m c) (coreAt m e)) p,
     )
 
+-- it is the one of smallest ticket that does
+abbrev pub First : Machine → ℕ → ℕ → Type 0
+First m c e = Least (λ b. coreAt m b .ticket) 16 (contender m c) e
+
+first-ahead : (m : Machine) (c : ℕ) → blocked m c ≡ true → First m c (firstAhead m c)
+unfolding blocked
+first-ahead m c b = least (λ e. coreAt m e .ticket) (contender m c) 16 b
+
 -- one whose data set meets the write set of another conflicts with it
 pub struck-conflicts : (a b : Core) → isStruck (a .writes) b ≡ true → conflicting a b ≡ true
 struck-conflicts a b hit = ap (λ (x : Bool). x || meeting (b .writes) (dataSet a)) (both-right (b .active) _ hit)
@@ -81,8 +90,7 @@ pub data Case (w : World) : Call → Answer → World → Type 0 where
       → Case w (Read c d) (valued w c d .answer) (valued w c d .world)
   is-written : {c d v : ℕ} → Lent-ok w c → d < w .machine .objects → coreAt (w .machine) c .zombie ≡ false
       → Case w (Write c d v) Written (written w c d v .world)
-  is-waiting : {c e : ℕ} → Lent-ok w c → coreAt (w .machine) c .zombie ≡ false → contender (w .machine) c e ≡ true
-      → Case w (Commit c) (Waits e) w
+  is-waiting : {c e : ℕ} → Lent-ok w c → coreAt (w .machine) c .zombie ≡ false → First (w .machine) c e → Case w (Commit c) (Waits e) w
   is-through : {c : ℕ} → Lent-ok w c → coreAt (w .machine) c .zombie ≡ false → blocked (w .machine) c ≡ false
       → Case w (Commit c) (through w c .answer) (through w c .world)
   is-ended : {c : ℕ} → Core-ok (w .machine) c → coreAt (w .machine) c .active ≡ true
@@ -240,39 +248,37 @@ commit-ok w c e =
     m : Machine
     m = w .machine
 
--- the core e that waits names contends, where the answer is waits
-pub commit-case : (w : World) (c e : ℕ) → (commit e w c .answer ≡ Waits e → contender (w .machine) c e ≡ true)
-    → Case w (Commit c) (commit e w c .answer) (commit e w c .world)
+pub commit-case : (w : World) (c : ℕ) → Case w (Commit c) (commit w c .answer) (commit w c .world)
 unfolding commit
-commit-case w c e = go (commitRefusal w c) refl (coreAt m c .zombie) refl (blocked m c) refl
+commit-case w c = go (commitRefusal w c) refl (coreAt m c .zombie) refl (blocked m c) refl
   where
     m : Machine
     m = w .machine
 
     done : ℕ → Bool → Bool → Result
-    done r z b = unlessLent r w (cond z (setBackTold w c) (cond b (waiting w e) (through w c)))
+    done r z b = unlessLent r w (cond z (setBackTold w c) (cond b (waiting w c) (through w c)))
 
     go : (r : ℕ) → commitRefusal w c ≡ r → (z : Bool) → coreAt m c .zombie ≡ z → (b : Bool) → blocked m c ≡ b
-        → (done r z b .answer ≡ Waits e → contender m c e ≡ true) → Case w (Commit c) (done r z b .answer) (done r z b .world)
-    go zero t true z b u waits = unfold unlessLent setBackTold in is-told asks-commit (commit-ok w c t) z
-    go zero t false z true u waits = unfold unlessLent in is-waiting (commit-ok w c t) z (waits refl)
-    go zero t false z false u waits = unfold unlessLent in is-through (commit-ok w c t) z u
-    go (suc n) t z y b u waits = unfold unlessLent in is-refused
+        → Case w (Commit c) (done r z b .answer) (done r z b .world)
+    go zero t true z b u = unfold unlessLent setBackTold in is-told asks-commit (commit-ok w c t) z
+    go zero t false z true u = unfold unlessLent in is-waiting (commit-ok w c t) z (first-ahead m c u)
+    go zero t false z false u = unfold unlessLent in is-through (commit-ok w c t) z u
+    go (suc n) t z y b u = unfold unlessLent in is-refused
 
 -- a call that follows the rule is one of the cases
 pub case-of : {w : World} {call : Call} {a : Answer} {w′ : World} → Follows w call a w′ → Case w call a w′
 unfolding rule
 case-of {w} {call} {a} {w′} f =
-    subst₂ (λ (b : Answer) (v : World). Case w call b v) (sym (f .answer-is)) (sym (f .world-is)) (go call (coreNamed a) (λ e. f .waits-for (coreNamed a) (f .answer-is ∙ e)))
+    subst₂ (λ (b : Answer) (v : World). Case w call b v) (sym (f .answer-is)) (sym (f .world-is)) (go call)
   where
-    go : (x : Call) (e : ℕ) → (rule e w x .answer ≡ Waits e → contender (w .machine) (coreOf x) e ≡ true) → Case w x (rule e w x .answer) (rule e w x .world)
-    go (Release c number deadline) e waits = release-case w c number deadline
-    go (Begin c) e waits = begin-case w c
-    go (Read c d) e waits = read-case w c d
-    go (Write c d v) e waits = write-case w c d v
-    go (Commit c) e waits = commit-case w c e waits
-    go (GiveUp c) e waits = give-up-case w c
-    go (Finish c) e waits = finish-case w c
+    go : (x : Call) → Case w x (rule w x .answer) (rule w x .world)
+    go (Release c number deadline) = release-case w c number deadline
+    go (Begin c) = begin-case w c
+    go (Read c d) = read-case w c d
+    go (Write c d v) = write-case w c d v
+    go (Commit c) = commit-case w c
+    go (GiveUp c) = give-up-case w c
+    go (Finish c) = finish-case w c
 
 -- ---- setup
 

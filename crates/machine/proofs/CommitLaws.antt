@@ -1,17 +1,16 @@
--- The laws of commit, over plain variables: where its loop over the objects stands, who is ahead, and what it gives.
+-- The laws of commit, over plain variables: where its loop over the objects stands, and what it gives.
 use mathlib.Core.Path.{_≡_, refl, sym, ap, ap₂, subst, _∙_}
-use mathlib.Core.Bool.{Bool, true, false, cond, not, _&&_, _||_, true≢false}
+use mathlib.Core.Bool.{Bool, true, false, cond, not, _&&_, true≢false}
 use mathlib.Core.List.{List}
-use Prim.Native.Nat.{ℕ, zero, suc, _+_, _*_, _≤_, _<_}
+use Prim.Native.Nat.{ℕ, _+_, _*_, _≤_, _<_}
 use native.Mathlib.Nat.{mul-le-mul-right, suc-mul}
 use native.Mathlib.Omega.{arith}
 use lib.Dec.{ltb}
 use lib.ListN.{length, getD, set}
 use lib.Seq.{set-getD}
-use borrow.Author.Tests.{ltb-true, ltb-false, eq-eqb}
-use Rattle.objset.specs.Objset.{has, some}
+use borrow.Author.Tests.{ltb-true, ltb-false, lt-ltb, eq-eqb}
+use Rattle.objset.specs.Objset.{has}
 use Rattle.objset.proofs.Digits.{has-zero}
-use Rattle.objset.proofs.Laws.{one-some}
 use Rattle.core.specs.declared.Core.{Core}
 use Rattle.core.specs.declared.Answer.{Answer}
 use Rattle.core.specs.declared.Answer.the-variants.{Refused, Waits, SetBack}
@@ -24,14 +23,14 @@ use Rattle.machine.specs.declared.Machine.{Machine}
 use Rattle.machine.specs.declared.inside.calls.Found.{Found}
 use Rattle.machine.specs.Record.{coreAt, putCore}
 use Rattle.machine.specs.Sound.{sound}
-use Rattle.machine.specs.Answers.{kind, coreNamed}
 use Rattle.machine.specs.Inside.{SoundWorld}
-use Rattle.machine.specs.Rule.{World, Result, withMachine, unlessLent, wrongTables, setBackTold, contender, blocked, changed, moved, through, waiting, commitRefusal, commit}
+use Rattle.machine.specs.Rule.{World, Result, withMachine, unlessLent, wrongTables, setBackTold, contender, blocked, firstAhead, changed, moved, through, waiting, commitRefusal, commit}
 use Rattle.machine.specs.OneCore.{found, firstHolding, carriedOut}
 use Rattle.machine.proofs.Entries.{put-each, changed-at, changed-long}
 use Rattle.machine.proofs.Facts.{stands, core-place, one-open}
 use Rattle.machine.proofs.CallLaws.{is-sound, a-core, no-core, refused-lent, accepted-lent}
-use Rattle.machine.proofs.CoreLists.{holding-holds, holding-none, strikes-none, changed-none, strikes-cleared}
+use Rattle.machine.proofs.CoreLists.{strikes-none, changed-none, strikes-cleared}
+use Rattle.machine.proofs.Least.{least}
 use Rattle.machine.proofs.Front.{Stands, stands-next, stands-stored, stands-kept, stands-past, stands-all}
 
 -- ---- the loops over the objects of the write set
@@ -68,30 +67,6 @@ module _ (ws : ℕ) (f : ℕ → ℕ → ℕ) (old : List ℕ) where
       outside : (d : ℕ) → d < length old → n ≤ d → (q : Bool) → has ws d ≡ q → has ws d ≡ false
       outside d l p true e = absurd (omega (arith, h d l e))
       outside d l p false e = e
-
--- ---- who holds a transaction back
-
-none-some : (n : ℕ) (f : ℕ → Bool) → ((d : ℕ) → d < n → f d ≡ false) → some n f ≡ false
-unfolding some
-none-some zero f h = refl
-none-some (suc n) f h = ap₂ _||_ (h n (omega arith)) (none-some n f (λ d l. h d (omega arith)))
-
-contender-idle : (m : Machine) (c e : ℕ) → coreAt m e .active ≡ false → contender m c e ≡ false
-unfolding contender
-contender-idle m c e off = rw off
-
-pub someone-ahead : (m : Machine) (c e : ℕ) → e < 16 → contender m c e ≡ true → blocked m c ≡ true
-unfolding blocked
-someone-ahead m c e l p = one-some 16 (contender m c) e l p
-
--- a core that the machine lacks holds nobody back
-pub nobody-ahead : (m : Machine) (s : sound m ≡ true) (c : ℕ) → ((e : ℕ) → e < m .cores → contender m c e ≡ false) → blocked m c ≡ false
-unfolding blocked
-nobody-ahead m s c h = none-some 16 (contender m c) (λ e l. go e l (ltb e (m .cores)) refl)
-  where
-    go : (e : ℕ) → e < 16 → (q : Bool) → ltb e (m .cores) ≡ q → contender m c e ≡ false
-    go e l true p = h e (ltb-true e (m .cores) p)
-    go e l false p = contender-idle m c e (stands m s .turns .lacked e l (ltb-false e (m .cores) p))
 
 -- ---- what a sound record tells the functions that a commit calls
 
@@ -156,15 +131,15 @@ module _ (w : World) (c : ℕ) (s : sound (w .machine) ≡ true) (committed-fits
   fit : wrongTables w ≡ false
   fit = ap not (ap₂ _&&_ (eq-eqb _ _ committed-fits) (eq-eqb _ _ pending-fits))
 
-  pub commit-no-core : (e : ℕ) → w .machine .cores ≤ c → record { answer = Refused 4; world = w } ≡ commit e w c
+  pub commit-no-core : w .machine .cores ≤ c → record { answer = Refused 4; world = w } ≡ commit w c
   unfolding commit commitRefusal
-  commit-no-core e h =
+  commit-no-core h =
       refused-lent w _ 3 _ (skips _ _ _ (is-sound (w .machine) s) (skips _ _ _ fit (hits _ _ _ (no-core (w .machine) c h))))
 
   module _ (h : c < w .machine .cores) where
-    pub commit-none : (e : ℕ) → coreAt (w .machine) c .active ≡ false → record { answer = Refused 9; world = w } ≡ commit e w c
+    pub commit-none : coreAt (w .machine) c .active ≡ false → record { answer = Refused 9; world = w } ≡ commit w c
     unfolding commit commitRefusal
-    commit-none e off =
+    commit-none off =
         refused-lent w _ 8 _
         (skips _ _ _ (is-sound (w .machine) s) (skips _ _ _ fit (skips _ _ _ (a-core (w .machine) c h) (hits _ _ _ (ap not off)))))
 
@@ -176,18 +151,18 @@ module _ (w : World) (c : ℕ) (s : sound (w .machine) ≡ true) (committed-fits
           (skips _ _ _ (is-sound (w .machine) s)
           (skips _ _ _ fit (skips _ _ _ (a-core (w .machine) c h) (skips _ _ _ (ap not on) none-holds))))
 
-      pub commit-told : (e : ℕ) → coreAt (w .machine) c .zombie ≡ true → setBackTold w c ≡ commit e w c
+      pub commit-told : coreAt (w .machine) c .zombie ≡ true → setBackTold w c ≡ commit w c
       unfolding commit
-      commit-told e z = rw z (taken (setBackTold w c))
+      commit-told z = rw z (taken (setBackTold w c))
 
       module _ (z : coreAt (w .machine) c .zombie ≡ false) where
-        pub commit-waits : (e : ℕ) → blocked (w .machine) c ≡ true → waiting w e ≡ commit e w c
+        pub commit-waits : blocked (w .machine) c ≡ true → waiting w c ≡ commit w c
         unfolding commit
-        commit-waits e b = rw (z, b) (taken (waiting w e))
+        commit-waits b = rw (z, b) (taken (waiting w c))
 
-        pub commit-through : (e : ℕ) → blocked (w .machine) c ≡ false → through w c ≡ commit e w c
+        pub commit-through : blocked (w .machine) c ≡ false → through w c ≡ commit w c
         unfolding commit
-        commit-through e b = rw (z, b) (taken (through w c))
+        commit-through b = rw (z, b) (taken (through w c))
 
 -- ---- what a commit gives on its own core, carried out, is what the rule gives
 
@@ -228,81 +203,54 @@ module _ (w : World) where
   settle-passes c l = rw (strikes-cleared (coreAt m c .writes) c (m .core) l) refl
 
   module _ (f : SoundWorld w) (long : length (m .core) ≡ 16) (c : ℕ) where
-    -- by the rule, and the core that waits names is one that may be named
-    Settles : ℕ → Settled → Type 0
-    Settles at r = (carriedOut w at r ≡ commit (coreNamed (r .answer)) w c) × ((e : ℕ) → r .answer ≡ Waits e → contender m c e ≡ true)
-
-    -- an answer of another kind names no core
-    kinds-differ : (a : Answer) (n : ℕ) → kind a ≡ n → (n ≡ 6 → ⊥) → (e : ℕ) → a ≡ Waits e → contender m c e ≡ true
-    unfolding kind
-    kinds-differ a n is h e p = absurd (h (sym is ∙ ap kind p))
-
-    same-core : (b e : ℕ) → Waits b ≡ Waits e → b ≡ e
-    unfolding coreNamed
-    same-core b e p = ap coreNamed p
-
     module _ (h : c < m .cores) where
-      ahead : ℕ
+      abbrev ahead : ℕ
       ahead = firstHolding (m .core) (coreAt m c)
 
-      held : ahead < 16 → contender m c ahead ≡ true
-      unfolding contender ahead
-      held l = holding-holds (coreAt m c) (m .core) long l
+      -- where it is blocked, waits names the one who is first ahead
+      held : (b : Bool) → blocked m c ≡ b → ahead ≡ cond b (firstAhead m c) 16
+      unfolding blocked contender
+      held b t = ap (λ (x : Bool). cond x (firstAhead m c) 16) t
 
-      free : 16 ≤ ahead → blocked m c ≡ false
-      unfolding contender ahead
-      free l = nobody-ahead m (f .is-sound) c (λ e b. holding-none (coreAt m c) (m .core) long l e (core-place m (f .is-sound) e b))
+      first-place : blocked m c ≡ true → firstAhead m c < 16
+      unfolding blocked
+      first-place t = least (λ e. coreAt m e .ticket) (contender m c) 16 t .below
 
-      on-core : (a z q : Bool) → coreAt m c .active ≡ a → coreAt m c .zombie ≡ z → ltb ahead 16 ≡ q
-          → Settles c
-          (cond a (cond z (stays (unmarked (coreAt m c)) SetBack) (cond q (stays (coreAt m c) (Waits ahead)) (passes (coreAt m c)))) (stays (coreAt m c) (Refused 9)))
-      unfolding Settles
-      on-core false z q off mark test =
-          (settle-same c (Refused 9) ∙ commit-none w c (f .is-sound) (f .committed-long) (f .pending-long) h _ off, kinds-differ _ 11 (unfold kind in refl) (λ x. omega arith))
-      on-core true true q on mark test = (
-        settle-stays c (unmarked (coreAt m c)) SetBack ∙ unfold setBackTold in commit-told w c (f .is-sound) (f .committed-long) (f .pending-long) h on _ mark,
-        kinds-differ _ 8 (unfold kind in refl) (λ x. omega arith),
-      )
+      on-core : (a z b : Bool) → coreAt m c .active ≡ a → coreAt m c .zombie ≡ z → blocked m c ≡ b
+          → carriedOut w c
+          (cond a (cond z (stays (unmarked (coreAt m c)) SetBack) (cond (ltb ahead 16) (stays (coreAt m c) (Waits ahead)) (passes (coreAt m c)))) (stays (coreAt m c) (Refused 9)))
+          ≡ commit w c
+      on-core false z b off mark test = settle-same c (Refused 9) ∙ commit-none w c (f .is-sound) (f .committed-long) (f .pending-long) h off
+      on-core true true b on mark test =
+          settle-stays c (unmarked (coreAt m c)) SetBack ∙ unfold setBackTold in commit-told w c (f .is-sound) (f .committed-long) (f .pending-long) h on mark
       on-core true false true on mark test =
-          let there = held (ltb-true _ _ test) in (
-            settle-same c (Waits ahead)
-                ∙ unfold coreNamed in commit-waits w c (f .is-sound) (f .committed-long) (f .pending-long) h on mark ahead (someone-ahead m c ahead (ltb-true _ _ test) there),
-            λ e p. subst (λ (x : ℕ). contender m c x ≡ true) (same-core ahead e p) there,
-          )
-      on-core true false false on mark test = (
-        settle-passes c (omega (arith, long, core-place m (f .is-sound) c h))
-            ∙ commit-through w c (f .is-sound) (f .committed-long) (f .pending-long) h on mark _ (free (ltb-false _ _ test)),
-        kinds-differ _ 7 (unfold kind in refl) (λ x. omega arith),
-      )
+          let named = held true test in
+          ap (λ (e : ℕ). carriedOut w c (cond (ltb e 16) (stays (coreAt m c) (Waits e)) (passes (coreAt m c)))) named
+          ∙ ap (λ (q : Bool). carriedOut w c (cond q (stays (coreAt m c) (Waits (firstAhead m c))) (passes (coreAt m c)))) (lt-ltb _ _ (first-place test))
+          ∙ settle-same c (Waits (firstAhead m c)) ∙ commit-waits w c (f .is-sound) (f .committed-long) (f .pending-long) h on mark test
+      on-core true false false on mark test =
+          ap (λ (e : ℕ). carriedOut w c (cond (ltb e 16) (stays (coreAt m c) (Waits e)) (passes (coreAt m c)))) (held false test)
+          ∙ settle-passes c (omega (arith, long, core-place m (f .is-sound) c h))
+          ∙ commit-through w c (f .is-sound) (f .committed-long) (f .pending-long) h on mark test
 
     -- what the commit gives where it finds its core
     abbrev pub settledAt : Found → Settled
     settledAt to = commitOn (to .refusal) (coreAt m (to .core)) (firstHolding (m .core) (coreAt m (to .core)))
 
-    pub by-commit : let to : Found = found c 0 (m .cores) (m .objects) in
-        (carriedOut w (to .core) (settledAt to) ≡ commit (coreNamed (settledAt to .answer)) w c)
-        × ((e : ℕ) → settledAt to .answer ≡ Waits e → contender m c e ≡ true)
+    pub by-commit : let to : Found = found c 0 (m .cores) (m .objects) in carriedOut w (to .core) (settledAt to) ≡ commit w c
     unfolding found commitOn
     by-commit = go (ltb c (m .cores)) refl (ltb 0 (m .objects)) refl
       where
         go : (p : Bool) → ltb c (m .cores) ≡ p → (q : Bool) → ltb 0 (m .objects) ≡ q
             → let to : Found = cond p (cond q (record { core = c; object = 0; refusal = 0 }) (record { core = 0; object = 0; refusal = 5 })) (record { core = 0; object = 0; refusal = 4 }) in
-            (carriedOut w (to .core) (settledAt to) ≡ commit (coreNamed (settledAt to .answer)) w c)
-            × ((e : ℕ) → settledAt to .answer ≡ Waits e → contender m c e ≡ true)
-        go true h true l = unfold Settles ahead in on-core (ltb-true _ _ h) (coreAt m c .active) (coreAt m c .zombie) (ltb (ahead (ltb-true _ _ h)) 16) refl refl refl
+            carriedOut w (to .core) (settledAt to) ≡ commit w c
+        go true h true l = on-core (ltb-true _ _ h) (coreAt m c .active) (coreAt m c .zombie) (blocked m c) refl refl refl
         go true h false l = absurd (omega (arith, ltb-false 0 (m .objects) l, stands m (f .is-sound) .some-objects))
-        go false h q l = (
-          settle-same 0 (Refused 4) ∙ commit-no-core w c (f .is-sound) (f .committed-long) (f .pending-long) _ (ltb-false _ _ h),
-          kinds-differ _ 11 (unfold kind in refl) (λ x. omega arith),
-        )
+        go false h q l = settle-same 0 (Refused 4) ∙ commit-no-core w c (f .is-sound) (f .committed-long) (f .pending-long) (ltb-false _ _ h)
 
     -- the same, of what code found and got
     pub by-commit-at : (to : Found) (e : ℕ) (r : Settled) → to ≡ found c 0 (m .cores) (m .objects)
-        → e ≡ firstHolding (m .core) (coreAt m (to .core)) → r ≡ commitOn (to .refusal) (coreAt m (to .core)) e
-        → (carriedOut w (to .core) r ≡ commit (coreNamed (r .answer)) w c) × ((e : ℕ) → r .answer ≡ Waits e → contender m c e ≡ true)
+        → e ≡ firstHolding (m .core) (coreAt m (to .core)) → r ≡ commitOn (to .refusal) (coreAt m (to .core)) e → carriedOut w (to .core) r ≡ commit w c
     by-commit-at to e r p q h =
-        subst (λ (x : Settled). (carriedOut w (to .core) x ≡ commit (coreNamed (x .answer)) w c) × ((e : ℕ) → x .answer ≡ Waits e → contender m c e ≡ true))
-        (sym (h ∙ ap (commitOn (to .refusal) (coreAt m (to .core))) q))
-        (subst
-        (λ (x : Found). (carriedOut w (x .core) (settledAt x) ≡ commit (coreNamed (settledAt x .answer)) w c) × ((e : ℕ) → settledAt x .answer ≡ Waits e → contender m c e ≡ true))
-        (sym p) by-commit)
+        ap (carriedOut w (to .core)) (h ∙ ap (commitOn (to .refusal) (coreAt m (to .core))) q)
+        ∙ subst (λ (x : Found). carriedOut w (x .core) (settledAt x) ≡ commit w c) (sym p) by-commit

@@ -80,20 +80,20 @@ module _ (w : World) where
     alone n r acted o e same =
         given-unless c d n acted (unlent w o) same ∙ unlent-unless n o ∙ ap (λ (x : ℕ). unlent w (unless x m o)) (sym e)
 
-    release-given : (number deadline : ℕ) → given w c d (releaseOn (coreAt m c) (seen w c d) number deadline) ≡ rule 0 w (Release c number deadline)
+    release-given : (number deadline : ℕ) → given w c d (releaseOn (coreAt m c) (seen w c d) number deadline) ≡ rule w (Release c number deadline)
     unfolding releaseOn rule release released
     release-given number deadline =
         alone _ _ _ _ (skips _ _ _ (is-sound m (f .is-sound)) (skips _ _ _ (a-core m c h) refl)) (put-word c d _ _)
 
-    begin-given : given w c d (beginOn (coreAt m c) (seen w c d)) ≡ rule 0 w (Begin c)
+    begin-given : given w c d (beginOn (coreAt m c) (seen w c d)) ≡ rule w (Begin c)
     unfolding beginOn rule begin begun
     begin-given = alone _ _ _ _ (skips _ _ _ (is-sound m (f .is-sound)) (skips _ _ _ (a-core m c h) refl)) (put-word c d _ _)
 
-    give-up-given : given w c d (giveUpOn (coreAt m c) (seen w c d)) ≡ rule 0 w (GiveUp c)
+    give-up-given : given w c d (giveUpOn (coreAt m c) (seen w c d)) ≡ rule w (GiveUp c)
     unfolding giveUpOn rule giveUp ended
     give-up-given = alone _ _ _ _ (skips _ _ _ (is-sound m (f .is-sound)) (skips _ _ _ (a-core m c h) refl)) (put-word c d _ _)
 
-    finish-given : given w c d (finishOn (coreAt m c) (seen w c d)) ≡ rule 0 w (Finish c)
+    finish-given : given w c d (finishOn (coreAt m c) (seen w c d)) ≡ rule w (Finish c)
     unfolding finishOn rule finish finished
     finish-given = alone _ _ _ _ (skips _ _ _ (is-sound m (f .is-sound)) (skips _ _ _ (a-core m c h) refl)) (put-word c d _ _)
 
@@ -111,18 +111,18 @@ module _ (w : World) where
       unfolding setBackTold
       told-given = put-word c d _ _
 
-      read-given : given w c d (readOn (coreAt m c) (seen w c d) d) ≡ rule 0 w (Read c d)
+      read-given : given w c d (readOn (coreAt m c) (seen w c d) d) ≡ rule w (Read c d)
       unfolding readOn rule read valued valueRead
       read-given = access _ _ (given-cond c d (coreAt m c .zombie) _ _ _ _ told-given (put-word c d _ _))
 
-      write-given : (v : ℕ) → given w c d (writeOn (coreAt m c) (seen w c d) d v) ≡ rule 0 w (Write c d v)
+      write-given : (v : ℕ) → given w c d (writeOn (coreAt m c) (seen w c d) d v) ≡ rule w (Write c d v)
       unfolding writeOn rule write written
       write-given v = access _ _ (given-cond c d (coreAt m c .zombie) _ _ _ _ told-given refl)
 
   -- ---- each of the six, where the core and the card are found
 
   found-given : SoundWorld w → (a : Act) (c : ℕ) → c < m .cores → objectOf a < m .objects
-      → given w c (objectOf a) (taken a (coreAt m c) (seen w c (objectOf a))) ≡ rule 0 w (callOf a c)
+      → given w c (objectOf a) (taken a (coreAt m c) (seen w c (objectOf a))) ≡ rule w (callOf a c)
   unfolding taken
   found-given f (Act.Release number deadline) c h l = release-given f c h 0 number deadline
   found-given f Act.Begin c h l = begin-given f c h 0
@@ -142,22 +142,22 @@ module _ (w : World) where
   core-of Act.Finish c = refl
 
   -- 4
-  nowhere : SoundWorld w → (call : Call) → m .cores ≤ coreOf call → record { answer = Refused 4; world = w } ≡ rule 0 w call
+  nowhere : SoundWorld w → (call : Call) → m .cores ≤ coreOf call → record { answer = Refused 4; world = w } ≡ rule w call
   unfolding refusals
   nowhere f call h =
-      refused-with 0 w call 3
+      refused-with w call 3
       (skips _ _ _ (is-sound m (f .is-sound))
       (skips _ _ _ (ap (λ (b : Bool). at call false false true true true false false && b) (tables-fit w f) ∙ and-false (at call false false true true true false false))
       (hits _ _ _ (no-core m (coreOf call) h))))
 
   -- 5: a call that names a card
-  no-card : SoundWorld w → (a : Act) (c : ℕ) → c < m .cores → m .objects ≤ objectOf a → record { answer = Refused 5; world = w } ≡ rule 0 w (callOf a c)
+  no-card : SoundWorld w → (a : Act) (c : ℕ) → c < m .cores → m .objects ≤ objectOf a → record { answer = Refused 5; world = w } ≡ rule w (callOf a c)
   unfolding refusals
   no-card f (Act.Read d) c h l =
-      refused-with 0 w (Read c d) 4
+      refused-with w (Read c d) 4
       (skips _ _ _ (is-sound m (f .is-sound)) (skips _ _ _ (tables-fit w f) (skips _ _ _ (a-core m c h) (hits _ _ _ (no-object m d l)))))
   no-card f (Act.Write d v) c h l =
-      refused-with 0 w (Write c d v) 4
+      refused-with w (Write c d v) 4
       (skips _ _ _ (is-sound m (f .is-sound)) (skips _ _ _ (tables-fit w f) (skips _ _ _ (a-core m c h) (hits _ _ _ (no-object m d l)))))
   no-card f (Act.Release number deadline) c h l = absurd (omega (arith, l, stands m (f .is-sound) .some-objects))
   no-card f Act.Begin c h l = absurd (omega (arith, l, stands m (f .is-sound) .some-objects))
@@ -171,13 +171,13 @@ module _ (w : World) where
   onFound a to = actOn (to .refusal) a (coreAt m (to .core)) (seen w (to .core) (to .object))
 
   pub by-core : SoundWorld w → (a : Act) (c : ℕ) → let to : Found = found c (objectOf a) (m .cores) (m .objects) in
-      given w (to .core) (to .object) (onFound a to) ≡ rule 0 w (callOf a c)
+      given w (to .core) (to .object) (onFound a to) ≡ rule w (callOf a c)
   unfolding found actOn Core.unlessOn
   by-core f a c = go (ltb c (m .cores)) refl (ltb (objectOf a) (m .objects)) refl
     where
       go : (p : Bool) → ltb c (m .cores) ≡ p → (q : Bool) → ltb (objectOf a) (m .objects) ≡ q
           → let to : Found = cond p (cond q (record { core = c; object = objectOf a; refusal = 0 }) (record { core = 0; object = 0; refusal = 5 })) (record { core = 0; object = 0; refusal = 4 }) in
-          given w (to .core) (to .object) (onFound a to) ≡ rule 0 w (callOf a c)
+          given w (to .core) (to .object) (onFound a to) ≡ rule w (callOf a c)
       go true h true l = found-given f a c (ltb-true _ _ h) (ltb-true _ _ l)
       go true h false l = put-same 0 0 (Refused 5) ∙ no-card f a c (ltb-true _ _ h) (ltb-false _ _ l)
       go false h q l =
@@ -187,10 +187,10 @@ module _ (w : World) where
   -- the same, of what code found, saw and got
   pub by-core-at : SoundWorld w → (a : Act) (c d : ℕ) (to : Found) (s : Seen) (r : Acted) → d ≡ objectOf a → to ≡ found c d (m .cores) (m .objects)
       → s ≡ seen w (to .core) (to .object) → r ≡ actOn (to .refusal) a (coreAt m (to .core)) s
-      → given w (to .core) (to .object) r ≡ rule 0 w (callOf a c)
+      → given w (to .core) (to .object) r ≡ rule w (callOf a c)
   by-core-at f a c d to s r p q e h =
       ap (given w (to .core) (to .object)) (h ∙ ap (actOn (to .refusal) a (coreAt m (to .core))) e)
-      ∙ subst (λ (x : Found). given w (x .core) (x .object) (onFound a x) ≡ rule 0 w (callOf a c))
+      ∙ subst (λ (x : Found). given w (x .core) (x .object) (onFound a x) ≡ rule w (callOf a c))
       (sym (q ∙ ap (λ (n : ℕ). found c n (m .cores) (m .objects)) p)) (by-core f a c)
 
 -- ---- the places found are places of the machine

@@ -1,86 +1,22 @@
--- Lists of cores: who is the first that holds a transaction back, and the cores after a commit.
+-- Lists of cores: the cores after a commit.
 use mathlib.Core.Path.{_≡_, refl, sym, ap, ap₂, _∙_}
 use mathlib.Core.Bool.{Bool, true, false, cond, _&&_, and-false}
 use mathlib.Core.List.{List, [], _∷_}
-use Prim.Native.Nat.{ℕ, zero, suc, _+_, _-_, _≤_, _<_}
+use Prim.Native.Nat.{ℕ, zero, suc, _+_, _≤_, _<_}
 use native.Mathlib.Omega.{arith}
 use lib.Dec.{eqb}
-use lib.ListN.{getD, set, length, drop}
-use lib.Seq.{drop-cons, drop-length}
+use lib.ListN.{getD, set, length}
 use borrow.Author.Tests.{eqb-true, eq-eqb, ne-eqb}
 use Rattle.objset.specs.Objset.{has, meeting}
 use Rattle.objset.proofs.Digits.{has-zero}
 use Rattle.objset.proofs.Laws.{none-zero, none-meeting}
 use Rattle.core.specs.declared.Core.{Core}
 use Rattle.core.specs.Parts.{noCore, dataSet}
-use Rattle.core.specs.Life.{holdsBack, isStruck, aborted, struckBy, over}
+use Rattle.core.specs.Life.{isStruck, aborted, struckBy, over}
 use Rattle.core.proofs.LifeLaws.{struck-hit, struck-missed, struck-idle}
 use Rattle.machine.specs.Rule.{cleared, changed}
-use Rattle.machine.specs.OneCore.{firstFrom, firstHolding, struckAll}
+use Rattle.machine.specs.OneCore.{struckAll}
 use Rattle.machine.proofs.Front.{Stands, stands-next, stands-stored, stands-kept, stands-all}
-
--- ---- the first that holds a transaction back
-
--- past the last there is none
-pub none-holding : (cores : List Core) (k : Core) → length cores ≡ 16 → 16 ≡ firstFrom (drop 16 cores) 16 k
-unfolding firstFrom
-none-holding cores k long = rw (sym (ap (λ (n : ℕ). drop n cores) long) ∙ drop-length cores) refl
-
--- one core more in front, which holds it back or does not
-pub holding-here : (cores : List Core) (i : ℕ) (k : Core) → i < length cores → holdsBack (getD cores i noCore) k ≡ true
-    → i ≡ firstFrom (drop i cores) i k
-unfolding firstFrom
-holding-here cores i k l h = rw (drop-cons cores i noCore l, h) refl
-
-pub holding-later : (cores : List Core) (i j : ℕ) (k : Core) → j ≡ suc i → i < length cores → holdsBack (getD cores i noCore) k ≡ false
-    → firstFrom (drop j cores) j k ≡ firstFrom (drop i cores) i k
-unfolding firstFrom
-holding-later cores i j k e l h =
-    ap (λ (n : ℕ). firstFrom (drop n cores) n k) e ∙ rw (drop-cons cores i noCore l, h) refl
-
-module _ (k : Core) where
-  -- a number below 16 is a core that does
-  abbrev Holds : List Core → ℕ → ℕ → Type 0
-  Holds cores i r = (i ≤ r) × (holdsBack (getD cores (r - i) noCore) k ≡ true)
-
-  holds-from : (cores : List Core) (i : ℕ) → i + length cores ≤ 16 → firstFrom cores i k < 16 → Holds cores i (firstFrom cores i k)
-  unfolding firstFrom
-  holds-from [] i l h = absurd (omega arith)
-  holds-from (x ∷ xs) i l h = go (holdsBack x k) refl h (holds-from xs (suc i) (omega arith))
-    where
-      go : (b : Bool) → holdsBack x k ≡ b → cond b i (firstFrom xs (suc i) k) < 16
-          → (firstFrom xs (suc i) k < 16 → Holds xs (suc i) (firstFrom xs (suc i) k)) → Holds (x ∷ xs) i (cond b i (firstFrom xs (suc i) k))
-      go true e p more =
-          let here : _≡_ {A = ℕ} (i - i) 0 = omega arith in
-          (omega arith, ap (λ (n : ℕ). holdsBack (getD (x ∷ xs) n noCore) k) here ∙ e)
-      go false e p more =
-          let rest = more p in
-          let there : firstFrom xs (suc i) k - i ≡ suc (firstFrom xs (suc i) k - suc i) = omega (arith, rest .0) in
-          (omega (arith, rest .0), ap (λ (n : ℕ). holdsBack (getD (x ∷ xs) n noCore) k) there ∙ rest .1)
-
-  -- where it is none of them, none does
-  none-from : (cores : List Core) (i : ℕ) → i + length cores ≤ 16 → 16 ≤ firstFrom cores i k → (e : ℕ) → e < length cores
-      → holdsBack (getD cores e noCore) k ≡ false
-  unfolding firstFrom
-  none-from [] i l h e m = absurd (omega arith)
-  none-from (x ∷ xs) i l h e m = go (holdsBack x k) refl h (none-from xs (suc i) (omega arith)) e m
-    where
-      go : (b : Bool) → holdsBack x k ≡ b → 16 ≤ cond b i (firstFrom xs (suc i) k)
-          → (16 ≤ firstFrom xs (suc i) k → (e : ℕ) → e < length xs → holdsBack (getD xs e noCore) k ≡ false)
-          → (e : ℕ) → e < length (x ∷ xs) → holdsBack (getD (x ∷ xs) e noCore) k ≡ false
-      go true t h more e m = absurd (omega arith)
-      go false t h more zero m = t
-      go false t h more (suc e) m = more h e (omega arith)
-
-  pub holding-holds : (cores : List Core) → length cores ≡ 16 → firstHolding cores k < 16
-      → holdsBack (getD cores (firstHolding cores k) noCore) k ≡ true
-  holding-holds cores l h =
-      let all : firstHolding cores k - 0 ≡ firstHolding cores k = omega arith in
-      ap (λ (n : ℕ). holdsBack (getD cores n noCore) k) (sym all) ∙ holds-from cores 0 (omega arith) h .1
-
-  pub holding-none : (cores : List Core) → length cores ≡ 16 → 16 ≤ firstHolding cores k → (e : ℕ) → e < 16
-      → holdsBack (getD cores e noCore) k ≡ false
-  holding-none cores l h e m = none-from cores 0 (omega arith) h e (omega arith)
 
 -- ---- the cores after a commit
 

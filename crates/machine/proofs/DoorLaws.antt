@@ -3,12 +3,11 @@ use mathlib.Core.Path.{_≡_, ap, ap₂, _∙_}
 use mathlib.Core.Bool.{Bool, true, false, not, _&&_}
 use mathlib.Core.List.{List}
 use Prim.Native.Nat.{ℕ, _*_}
-use native.Mathlib.Omega.{arith}
 use lib.Dec.{eqb}
 use lib.ListN.{length, replicate}
 use borrow.Author.Tests.{eqb-true}
 use Rattle.objset.proofs.Laws.{both-left, both-right}
-use Rattle.core.specs.declared.Answer.the-variants.{Refused, Ready, Waits}
+use Rattle.core.specs.declared.Answer.the-variants.{Refused, Ready}
 use Rattle.machine.specs.Record.{blank, machineOf, sizesInRange}
 use Rattle.machine.specs.Sound.{sound}
 use Rattle.machine.specs.Inside.{SoundWorld}
@@ -21,12 +20,9 @@ use Rattle.machine.proofs.CallLaws.{refused-lent, accepted-lent}
 
 -- ---- 2: an unsound record
 
-pub unsound-refused : (e : ℕ) (w : World) (call : Call) → sound (w .machine) ≡ false → record { answer = Refused 2; world = w } ≡ rule e w call
+pub unsound-refused : (w : World) (call : Call) → sound (w .machine) ≡ false → record { answer = Refused 2; world = w } ≡ rule w call
 unfolding refusals
-unsound-refused e w call s = refused-with e w call 1 (hits _ _ _ (ap not s))
-
-pub refused-not-waits : (n e : ℕ) → Refused n ≡ Waits e → ⊥
-refused-not-waits n e p = let z : _≡_ {A = ℕ} 0 1 = cc in omega arith
+unsound-refused w call s = refused-with w call 1 (hits _ _ _ (ap not s))
 
 -- ---- 3: a table of another length
 
@@ -43,11 +39,11 @@ fine-of w s t =
     }
 
 -- a read, a write and a commit are refused
-pub misfit-refused : (e : ℕ) (w : World) (call : Call) → at call false false true true true false false ≡ true → sound (w .machine) ≡ true
-    → bothFit w ≡ false → record { answer = Refused 3; world = w } ≡ rule e w call
+pub misfit-refused : (w : World) (call : Call) → at call false false true true true false false ≡ true → sound (w .machine) ≡ true
+    → bothFit w ≡ false → record { answer = Refused 3; world = w } ≡ rule w call
 unfolding refusals
-misfit-refused e w call lends s t =
-    refused-with e w call 2 (skips _ _ _ (is-sound (w .machine) s) (hits _ _ _ (ap₂ _&&_ lends (ap not t))))
+misfit-refused w call lends s t =
+    refused-with w call 2 (skips _ _ _ (is-sound (w .machine) s) (hits _ _ _ (ap₂ _&&_ lends (ap not t))))
 
 -- ---- setup
 

@@ -4,6 +4,7 @@ mod CallLaws
 mod DoorLaws
 pub mod CoreCalls
 pub mod CoreLists
+mod Least
 mod Facts
 pub mod Typed
 pub mod Front
@@ -14,7 +15,6 @@ mod SoundLaws
 pub mod Refusals
 mod Told
 pub mod Case
-pub mod CanFollow
 pub mod Binds
 pub mod Sound
 pub mod Run

@@ -106,10 +106,10 @@ unfolding setBackTold refusalNumber
 accepted-access true w c x h = refl
 accepted-access false w c x h = h
 
-accepted-commit : (b : Bool) (e : ℕ) (w : World) (c : ℕ) → Accepted (cond b (waiting w e) (through w c) .answer)
+accepted-commit : (b : Bool) (w : World) (c : ℕ) → Accepted (cond b (waiting w c) (through w c) .answer)
 unfolding through refusalNumber
-accepted-commit true e w c = refl
-accepted-commit false e w c = refl
+accepted-commit true w c = refl
+accepted-commit false w c = refl
 
 -- ---- the number given, and what a refused call leaves
 
@@ -132,23 +132,23 @@ lent-refuses zero w x h = (h, λ n p. absurd (omega (arith, h, p)))
 lent-refuses (suc r) w x h = (refl, λ n p. ap (λ (y : ℕ). kept y w) p)
 
 -- the number is that of the first condition in document 01's table that holds; a refused call leaves the world as it was
-refuses : (e : ℕ) (w : World) (call : Call)
-    → (refusalNumber (rule e w call .answer) ≡ first (refusals w call))
-    × ((n : ℕ) → refusalNumber (rule e w call .answer) ≡ suc n → rule e w call ≡ kept (suc n) w)
+refuses : (w : World) (call : Call)
+    → (refusalNumber (rule w call .answer) ≡ first (refusals w call))
+    × ((n : ℕ) → refusalNumber (rule w call .answer) ≡ suc n → rule w call ≡ kept (suc n) w)
 unfolding rule refusals first release begin read write commit giveUp finish
-refuses e w (Release c n deadline) = unless-refuses _ w _ (accepted-release (w .machine) c n deadline)
-refuses e w (Begin c) = unless-refuses _ w (begun (w .machine) c) (unfold begun refusalNumber in refl)
-refuses e w (Read c d) =
+refuses w (Release c n deadline) = unless-refuses _ w _ (accepted-release (w .machine) c n deadline)
+refuses w (Begin c) = unless-refuses _ w (begun (w .machine) c) (unfold begun refusalNumber in refl)
+refuses w (Read c d) =
     let r = lent-refuses (accessRefusal w c d) w _ (accepted-access (coreAt (w .machine) c .zombie) w c (valued w c d) (unfold valued refusalNumber in refl)) in
     (r .0 ∙ access-in-order w c d, r .1)
-refuses e w (Write c d v) =
+refuses w (Write c d v) =
     let r = lent-refuses (accessRefusal w c d) w _ (accepted-access (coreAt (w .machine) c .zombie) w c (written w c d v) (unfold written refusalNumber in refl)) in
     (r .0 ∙ access-in-order w c d, r .1)
-refuses e w (Commit c) =
-    let r = lent-refuses (commitRefusal w c) w _ (accepted-access (coreAt (w .machine) c .zombie) w c _ (accepted-commit (blocked (w .machine) c) e w c)) in
+refuses w (Commit c) =
+    let r = lent-refuses (commitRefusal w c) w _ (accepted-access (coreAt (w .machine) c .zombie) w c _ (accepted-commit (blocked (w .machine) c) w c)) in
     (r .0 ∙ commit-in-order w c, r .1)
-refuses e w (GiveUp c) = unless-refuses _ w (ended (w .machine) c) (unfold ended refusalNumber in refl)
-refuses e w (Finish c) = unless-refuses _ w (finished (w .machine) c) (unfold finished refusalNumber in refl)
+refuses w (GiveUp c) = unless-refuses _ w (ended (w .machine) c) (unfold ended refusalNumber in refl)
+refuses w (Finish c) = unless-refuses _ w (finished (w .machine) c) (unfold finished refusalNumber in refl)
 
 -- the same of setup, which leaves the blank record and the tables as lent
 setup-refuses : (cores objects : ℕ) (committed pending : List ℕ)
@@ -161,8 +161,8 @@ setup-refuses cores objects committed pending = lent-refuses _ _ _ (unfold refus
 -- ---- for callers
 
 -- the smallest number that applies is given, and only if its condition holds
-pub smallest-given : (e : ℕ) (w : World) (call : Call) → Smallest (refusalNumber (rule e w call .answer)) (refusals w call)
-smallest-given e w call = rw (refuses e w call .0) (first-smallest 0 (refusals w call) (unfold refusals rising in refl))
+pub smallest-given : (w : World) (call : Call) → Smallest (refusalNumber (rule w call .answer)) (refusals w call)
+smallest-given w call = rw (refuses w call .0) (first-smallest 0 (refusals w call) (unfold refusals rising in refl))
 
 pub setup-smallest-given : (cores objects : ℕ) (committed pending : List ℕ)
     → Smallest (refusalNumber (setup cores objects committed pending .answer)) (setupRefusals cores objects committed pending)
@@ -171,12 +171,12 @@ setup-smallest-given cores objects committed pending =
     (first-smallest 0 (setupRefusals cores objects committed pending) (unfold setupRefusals rising in refl))
 
 -- a refused call gives back the record it took, and lent tables keep every word
-pub refused-unchanged : (e : ℕ) (w : World) (call : Call) (n : ℕ) → refusalNumber (rule e w call .answer) ≡ suc n → rule e w call .world ≡ w
-refused-unchanged e w call n p = ap (λ (x : Result). x .world) (refuses e w call .1 n p)
+pub refused-unchanged : (w : World) (call : Call) (n : ℕ) → refusalNumber (rule w call .answer) ≡ suc n → rule w call .world ≡ w
+refused-unchanged w call n p = ap (λ (x : Result). x .world) (refuses w call .1 n p)
 
 -- where the first condition that holds has number n, that is the answer
-pub refused-with : (e : ℕ) (w : World) (call : Call) (n : ℕ) → first (refusals w call) ≡ suc n → record { answer = Refused (suc n); world = w } ≡ rule e w call
-refused-with e w call n p = sym (refuses e w call .1 n (refuses e w call .0 ∙ p))
+pub refused-with : (w : World) (call : Call) (n : ℕ) → first (refusals w call) ≡ suc n → record { answer = Refused (suc n); world = w } ≡ rule w call
+refused-with w call n p = sym (refuses w call .1 n (refuses w call .0 ∙ p))
 
 -- a refused setup gives the blank record and keeps the tables as lent
 pub setup-refused-blank : (cores objects : ℕ) (committed pending : List ℕ) (n : ℕ)

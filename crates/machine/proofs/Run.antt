@@ -6,6 +6,7 @@ mod Eldest
 mod RoundsBound
 mod Fates
 mod Served
+mod FirstNamed
 mod Attempts
 mod Moments
 mod Serially

@@ -53,21 +53,6 @@ values Ended = []
 values (Finished j) = j ∷ []
 values (Refused n) = n ∷ []
 
--- the core that an answer of waits names; 0 for any other
-unfoldable pub coreNamed : Answer → ℕ
-coreNamed Ready = 0
-coreNamed Running = 0
-coreNamed Queued = 0
-coreNamed (Begun t) = 0
-coreNamed (Value v n) = 0
-coreNamed Written = 0
-coreNamed (Waits c) = c
-coreNamed (Committed n) = 0
-coreNamed SetBack = 0
-coreNamed Ended = 0
-coreNamed (Finished j) = 0
-coreNamed (Refused n) = 0
-
 unfoldable pub sameList : List ℕ → List ℕ → Bool
 sameList [] [] = true
 sameList [] (y ∷ ys) = false

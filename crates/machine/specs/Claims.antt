@@ -7,7 +7,6 @@ use mathlib.Core.List.{List, [], _∷_, _++_}
 use Prim.Native.Nat.{ℕ, _+_, _*_, _≤_, _<_}
 use Rattle.core.specs.declared.Answer.{Answer}
 use Rattle.core.specs.declared.Answer.the-variants.{Value}
-use Rattle.machine.specs.Answers.{coreNamed}
 use Rattle.machine.specs.Record.{tally}
 use Rattle.machine.specs.Rule.{World, rule, Call, Read}
 use Rattle.machine.specs.Follows.{Follows}
@@ -26,18 +25,18 @@ pub data Run (w₀ : World) : List Event → World → Type 0 where
 -- the world that the rules give when worked from w₀ over the calls alone
 unfoldable pub worked : World → List Event → World
 worked w₀ [] = w₀
-worked w₀ (e ∷ es) = rule 0 (worked w₀ es) (e .call) .world
+worked w₀ (e ∷ es) = rule (worked w₀ es) (e .call) .world
 
 -- Demand 3, the rule: each call's answer, the record after it and every word of both tables are those that the rules give when
--- worked from w₀ over the calls alone; only the core named by waits may differ.
+-- worked from w₀ over the calls alone.
 pub record ByTheRule (w₀ : World) (es : List Event) (w : World) : Type 0 where
   -- the record and both tables after the whole list
   pub world-worked : w ≡ worked w₀ es
   -- and after the calls of any beginning of it, early: the run passed through a world v, and v is the one worked
   pub passed-worked : (late early : List Event) → es ≡ late ++ early → (v : World) × Run w₀ early v × Run v late w × (v ≡ worked w₀ early)
-  -- the answer of each call, the rule being told the core that it names
+  -- the answer of each call
   pub answers-worked : (late early : List Event) (e : Event) → es ≡ late ++ e ∷ early
-      → e .answer ≡ rule (coreNamed (e .answer)) (worked w₀ early) (e .call) .answer
+      → e .answer ≡ rule (worked w₀ early) (e .call) .answer
 
 -- Demand 3, of every transaction T begun in the list. A moment is a list of the deeds so far, early; late is what came after it.
 pub record Served (h : List Deed) : Type 0 where
@@ -49,6 +48,9 @@ pub record Served (h : List Deed) : Type 0 where
   -- told to wait only behind an earlier one in conflict
   pub waits-behind : (late early : List Deed) (c e : ℕ) → h ≡ late ++ waits c e ∷ early
       → (inProgress early e ≡ true) × (born early e < born early c) × (conflict early c e ≡ true)
+  -- the first of them: of all in progress that were begun earlier and are in conflict with it none was begun before the one named
+  pub none-before : (late early : List Deed) (c e b : ℕ) → h ≡ late ++ waits c e ∷ early
+      → inProgress early b ≡ true → born early b < born early c → conflict early c b ≡ true → born early e ≤ born early b
   -- its reported setbacks are the commits that struck it, and as many of its calls were answered set back
   pub reported : (late early : List Deed) (c n : ℕ) → h ≡ late ++ commits c n ∷ early → (n ≡ struck early c) × (n ≡ setBacks early c)
   -- if not given up and with at most l reads and writes in any attempt of T and those k, committed within (k + 1) × (l + 2) rounds

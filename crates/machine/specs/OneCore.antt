@@ -1,9 +1,10 @@
 -- A call takes one core out of the record and puts it back: where it finds it, what it sees beside it, and what is put back.
 use mathlib.Core.Bool.{Bool, cond}
 use mathlib.Core.List.{List, [], _∷_}
-use Prim.Native.Nat.{ℕ, zero, suc, _+_, _*_}
+use Prim.Native.Nat.{ℕ, _+_, _*_}
 use lib.Dec.{ltb}
 use lib.ListN.{getD, set, replicate}
+use Rattle.objset.specs.Objset.{some}
 use Rattle.core.specs.declared.Core.{Core}
 use Rattle.core.specs.declared.calls.Act.{Act}
 use Rattle.core.specs.declared.calls.Act.the-variants as Act
@@ -15,7 +16,7 @@ use Rattle.core.specs.Life.{holdsBack, struckBy}
 use Rattle.machine.specs.declared.Machine.{Machine}
 use Rattle.machine.specs.declared.Outcome.{Outcome}
 use Rattle.machine.specs.declared.inside.calls.Found.{Found}
-use Rattle.machine.specs.Rule.{World, Result, lent, slot, changed, moved, Call, Release, Begin, Read, Write, GiveUp, Finish}
+use Rattle.machine.specs.Rule.{World, Result, lent, slot, leastBy, changed, moved, Call, Release, Begin, Read, Write, GiveUp, Finish}
 
 -- ---- a call that concerns one core
 
@@ -74,13 +75,11 @@ handed x = record { answer = x .answer; machine = x .world .machine }
 
 -- ---- commit
 
--- the least of the first n cores that holds the transaction of core k back; 16 where none does
-unfoldable pub firstFrom : List Core → ℕ → Core → ℕ
-firstFrom [] i k = mostCores
-firstFrom (x ∷ xs) i k = cond (holdsBack x k) i (firstFrom xs (suc i) k)
-
+-- the core whose transaction is first ahead of core k's: of those that hold it back the one of smallest ticket; 16 where none does
 abbrev pub firstHolding : List Core → Core → ℕ
-firstHolding cores k = firstFrom cores 0 k
+firstHolding cores k =
+    let holding : (ℕ → Bool) = λ e. holdsBack (getD cores e noCore) k in
+    cond (some mostCores holding) (leastBy (λ e. getD cores e noCore .ticket) mostCores holding) mostCores
 
 -- each transaction that the write set ws strikes is set back
 unfoldable pub struckAll : ℕ → List Core → List Core

@@ -6,7 +6,7 @@ use Prim.Native.Nat.{ℕ, _≤_, _<_}
 use lib.Dec.{eqb}
 use Rattle.machine.specs.declared.Machine.{Machine}
 use Rattle.core.specs.declared.Answer.{Answer}
-use Rattle.machine.specs.Answers.{refusalNumber, values, coreNamed}
+use Rattle.machine.specs.Answers.{refusalNumber, values}
 use Rattle.machine.specs.Record.{activeAt}
 use Rattle.machine.specs.Rule.{World, outOfRange, misfit, unsound, wrongTables, noSuchCore, noSuchObject, fullList, jobless, ticketsSpent, setup, rule, Call, Release, Begin, Read, Write, Commit, GiveUp, Finish, coreOf}
 
@@ -73,9 +73,9 @@ pub record Smallest (n : ℕ) (xs : List (Bool × ℕ)) : Type 0 where
 abbrev pub Tabled : Answer → List (Bool × ℕ) → Answer → Type 0
 Tabled a conditions expected = Smallest (refusalNumber a) conditions × (values a ≡ values expected)
 
--- of the answer to a call after setup; expected is the rule's answer, told the core that waits names
+-- of the answer to a call after setup; expected is the rule's answer
 abbrev pub Numbered : World → Call → Answer → Type 0
-Numbered w call a = Tabled a (refusals w call) (rule (coreNamed a) w call .answer)
+Numbered w call a = Tabled a (refusals w call) (rule w call .answer)
 
 -- and of the answer to setup
 abbrev pub NumberedSetup : ℕ → ℕ → List ℕ → List ℕ → Answer → Type 0

@@ -190,14 +190,14 @@ contender m c e = holdsBack (coreAt m e) (coreAt m c)
 unfoldable pub blocked : Machine → ℕ → Bool
 blocked m c = some mostCores (contender m c)
 
--- the least number below n that passes f, if one does
-unfoldable pub leastOf : ℕ → (ℕ → Bool) → ℕ
-leastOf zero f = 0
-leastOf (suc n) f = cond (some n f) (leastOf n f) n
+-- of the numbers below n that pass f, if one does, the one of smallest key, the first of them among equals
+unfoldable pub leastBy : (ℕ → ℕ) → ℕ → (ℕ → Bool) → ℕ
+leastBy key zero f = 0
+leastBy key (suc n) f = cond (some n f) (cond (f n && ltb (key n) (key (leastBy key n f))) n (leastBy key n f)) n
 
--- a core that waits may name, where the commit is blocked: the least
+-- the core with the smallest conflicting ticket, where the commit is blocked
 abbrev pub firstAhead : Machine → ℕ → ℕ
-firstAhead m c = leastOf mostCores (contender m c)
+firstAhead m c = leastBy (λ e. coreAt m e .ticket) mostCores (contender m c)
 
 -- every core but c by `struckBy`, core c by `over`; the list starts with core i
 unfoldable pub cleared : ℕ → ℕ → ℕ → List Core → List Core
@@ -237,20 +237,19 @@ through w c =
           };
     }
 
--- if a conflicting transaction has a smaller ticket, waits, with the core e of one such; nothing else changes
+-- if a conflicting transaction has a smaller ticket, waits, with the core that is first ahead; nothing else changes
 abbrev pub waiting : World → ℕ → Result
-waiting w e = record { answer = Waits e; world = w }
+waiting w c = record { answer = Waits (firstAhead (w .machine) c); world = w }
 
 unfoldable pub commitRefusal : World → ℕ → ℕ
 commitRefusal w c =
     first
     ((unsound (w .machine), 2) ∷ (wrongTables w, 3) ∷ (noSuchCore (w .machine) c, 4) ∷ (not (activeAt (w .machine) c), 9) ∷ [])
 
--- e is the core that waits names
-unfoldable pub commit : ℕ → World → ℕ → Result
-commit e w c =
+unfoldable pub commit : World → ℕ → Result
+commit w c =
     unlessLent (commitRefusal w c) w
-    (cond (coreAt (w .machine) c .zombie) (setBackTold w c) (cond (blocked (w .machine) c) (waiting w e) (through w c)))
+    (cond (coreAt (w .machine) c .zombie) (setBackTold w c) (cond (blocked (w .machine) c) (waiting w c) (through w c)))
 
 -- ---- give up: the transaction ends without effect
 
@@ -305,15 +304,15 @@ pub data Call : Type 0 where
 abbrev pub unlent : World → Outcome → Result
 unlent w o = record { answer = o .answer; world = withMachine w (o .machine) }
 
--- the answer and the next world; e is the core that waits names
-unfoldable pub rule : ℕ → World → Call → Result
-rule e w (Release c number deadline) = unlent w (release (w .machine) c number deadline)
-rule e w (Begin c) = unlent w (begin (w .machine) c)
-rule e w (Read c d) = read w c d
-rule e w (Write c d v) = write w c d v
-rule e w (Commit c) = commit e w c
-rule e w (GiveUp c) = unlent w (giveUp (w .machine) c)
-rule e w (Finish c) = unlent w (finish (w .machine) c)
+-- the answer and the next world
+unfoldable pub rule : World → Call → Result
+rule w (Release c number deadline) = unlent w (release (w .machine) c number deadline)
+rule w (Begin c) = unlent w (begin (w .machine) c)
+rule w (Read c d) = read w c d
+rule w (Write c d v) = write w c d v
+rule w (Commit c) = commit w c
+rule w (GiveUp c) = unlent w (giveUp (w .machine) c)
+rule w (Finish c) = unlent w (finish (w .machine) c)
 
 -- the core that a call is for
 abbrev pub coreOf : Call → ℕ

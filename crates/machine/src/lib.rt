@@ -13,16 +13,15 @@ use core::Core;
 use core::calls::Act;
 use objset::OBJECTS;
 ghost use mathlib.Core.Path.{_≡_};
-ghost use mathlib.Core.Bool.{true, _&&_};
-ghost use Prim.Native.Nat.{ℕ, _*_};
+ghost use mathlib.Core.Bool.{_&&_};
+ghost use Prim.Native.Nat.{_*_};
 ghost use lib.Dec.{eqb};
 ghost use Rattle.machine.specs.Sound.{sound};
 ghost use Rattle.machine.specs.Rule as Rule;
 ghost use Rattle.machine.specs.Rule.{lent, left};
 ghost use Rattle.machine.specs.Record.{blank, sizesInRange};
-ghost use Rattle.core.specs.declared.Answer.the-variants.{Ready, Refused, Waits};
+ghost use Rattle.core.specs.declared.Answer.the-variants.{Ready, Refused};
 ghost use Rattle.machine.specs.Claims.{EveryRun};
-ghost use Rattle.machine.specs.Answers.{coreNamed};
 ghost use Rattle.machine.specs.Refusals.{Numbered, NumberedSetup};
 ghost use mathlib.Core.List.{[]};
 
@@ -213,12 +212,11 @@ impl Machine {
         access(self, core, Act::Write(object, value), committed, pending)
     }
 
-    // The transaction commits, with the count of setbacks, or waits for one ahead of it, or is told that it was set back. 2 unsound
-    // record, 3 wrong table, 4 no such core, 9 none in progress. The pending table keeps every word; so does the committed one
-    // where the transaction does not commit; refused, the record comes back as given.
+    // The transaction commits, with the count of setbacks, or waits, with the core of the smallest conflicting ticket, or is told that
+    // it was set back. 2 unsound record, 3 wrong table, 4 no such core, 9 none in progress. The pending table keeps every word; so does
+    // the committed one where the transaction does not commit; refused, the record comes back as given.
     pub fn commit(self, core: u32, committed: &mut [u32], pending: &mut [u32]) -> Outcome
-        ensures rule { λ r. ⌜ left r (now (committed .exit)) (now (pending .exit)) ≡ Rule.commit (coreNamed (r .answer)) (lent self (now (committed .entry)) (now (pending .entry))) core ⌝ }
-        ensures waits { λ r. ⌜ ((e : ℕ) → r .answer ≡ Waits e → Rule.contender self core e ≡ true) ⌝ }
+        ensures rule { λ r. ⌜ left r (now (committed .exit)) (now (pending .exit)) ≡ Rule.commit (lent self (now (committed .entry)) (now (pending .entry))) core ⌝ }
         ensures paper { λ r. ⌜ Numbered (lent self (now (committed .entry)) (now (pending .entry))) (Rule.Commit core) (r .answer) ⌝ }
     {
         if !is_sound(self) {

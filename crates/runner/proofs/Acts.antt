@@ -1,63 +1,20 @@
--- What a call after setup leaves, where it is lent the first words of the two tables: the world of the rule, with a line of the listing
--- that says the rule's answer.
+-- What a call after setup leaves, where it is lent the first words of the two tables: the rule's answer and world.
 use mathlib.Core.Path.{_≡_, refl, sym, ap, subst, _∙_}
 use mathlib.Core.Logic.{inr}
-use mathlib.Core.Bool.{Bool, true, false, cond}
 use mathlib.Core.List.{List, _++_}
-use Prim.Native.Nat.{ℕ, zero, suc, _*_}
+use Prim.Native.Nat.{ℕ, _*_}
 use lib.ListN.{length, take, drop}
 use lib.Seq.{take-at, length-front}
-use Rattle.machine.specs.Record.{coreAt}
-use Rattle.machine.specs.Rule.{World, Result, lent, rule, commit, commitRefusal, unlessLent, setBackTold, waiting, through, blocked, Call, Release, Begin, Read, Write, Commit, GiveUp, Finish}
+use Rattle.machine.specs.Rule.{World, Result, lent, rule, Call}
 use Rattle.machine.specs.Follows.{Follows}
-use Rattle.machine.specs.Answers.{coreNamed}
 use Rattle.machine.specs.declared.Machine.{Machine}
 use Rattle.machine.specs.declared.Outcome.{Outcome}
 use Rattle.machine.proofs.Case.{case-of}
 use Rattle.machine.specs.Inside.{WellFormedWorld}
 use Rattle.machine.proofs.Sound.Keeps.{keeps-good}
-use Rattle.listing.specs.Text.{said}
 use Rattle.runner.specs.Kept.{held, overlaid, BlankOrSound}
 use Rattle.core.specs.declared.Answer.{Answer}
 use Rattle.runner.proofs.Over.{over-own, over-front}
-
--- two results that the listing shows alike, with the same world
-abbrev Alike : Result → Result → Type 0
-Alike a b = (said (a .answer) ≡ said (b .answer)) × (a .world ≡ b .world)
-
-waiting-alike : (e b : ℕ) (w : World) → Alike (waiting w e) (waiting w b)
-unfolding said
-waiting-alike e b w = (refl, refl)
-
-commit-alike : (e b : ℕ) (w : World) (c : ℕ) → Alike (commit e w c) (commit b w c)
-unfolding commit
-commit-alike e b w c = refused (commitRefusal w c) (coreAt (w .machine) c .zombie) (blocked (w .machine) c)
-  where
-    kept : (held : Bool) → Alike (cond held (waiting w e) (through w c)) (cond held (waiting w b) (through w c))
-    kept true = waiting-alike e b w
-    kept false = (refl, refl)
-
-    marked : (z held : Bool)
-        → Alike (cond z (setBackTold w c) (cond held (waiting w e) (through w c))) (cond z (setBackTold w c) (cond held (waiting w b) (through w c)))
-    marked true held = (refl, refl)
-    marked false held = kept held
-
-    refused : (n : ℕ) (z held : Bool)
-        → Alike (unlessLent n w (cond z (setBackTold w c) (cond held (waiting w e) (through w c))))
-        (unlessLent n w (cond z (setBackTold w c) (cond held (waiting w b) (through w c))))
-    refused zero z held = unfold unlessLent in marked z held
-    refused (suc n) z held = unfold unlessLent in (refl, refl)
-
--- the core that waits names is not shown
-rule-alike : (e b : ℕ) (w : World) (call : Call) → Alike (rule e w call) (rule b w call)
-unfolding rule
-rule-alike e b w (Release c number deadline) = (refl, refl)
-rule-alike e b w (Begin c) = (refl, refl)
-rule-alike e b w (Read c d) = (refl, refl)
-rule-alike e b w (Write c d v) = (refl, refl)
-rule-alike e b w (Commit c) = commit-alike e b w c
-rule-alike e b w (GiveUp c) = (refl, refl)
-rule-alike e b w (Finish c) = (refl, refl)
 
 -- the words that a machine holds of tables that begin with its own
 pub front-held : (m : Machine) (cs ps more more′ : List ℕ) → WellFormedWorld (lent m cs ps) → held m (cs ++ more) (ps ++ more′) ≡ lent m cs ps
@@ -68,7 +25,7 @@ front-held m cs ps more more′ g =
 -- what a call promises of its answer, its record and the whole tables, cs₀ and ps₀ before it and cs and ps after it
 abbrev pub Done : List ℕ → List ℕ → Result → Outcome → List ℕ → List ℕ → Type 0
 Done cs₀ ps₀ expected r cs ps =
-    (said (r .answer) ≡ said (expected .answer))
+    (r .answer ≡ expected .answer)
     × ((held (r .machine) cs ps ≡ expected .world)
     × (BlankOrSound (r .machine) cs ps × ((cs ≡ overlaid (expected .world .committed) cs₀) × (ps ≡ overlaid (expected .world .pending) ps₀))))
 
@@ -81,18 +38,17 @@ pub done-same : (cs₀ ps₀ : List ℕ) (x : Result) {r r′ : Outcome} {cs cs�
     → Done cs₀ ps₀ x r cs ps
 done-same cs₀ ps₀ x a b c d = rw (a, b, c) d
 
-module _ (m : Machine) (cs ps : List ℕ) (g : WellFormedWorld (held m cs ps)) (cl : length cs ≡ 64) (pl : length ps ≡ 1024) (call : Call) (r : Outcome) (e : ℕ) where
+module _ (m : Machine) (cs ps : List ℕ) (g : WellFormedWorld (held m cs ps)) (cl : length cs ≡ 64) (pl : length ps ≡ 1024) (call : Call) (r : Outcome) where
   -- the call was lent the first words, and left them as cs′ and ps′
   pub acted : (cs′ ps′ : List ℕ) → length cs′ ≡ length (take (m .objects) cs) → length ps′ ≡ length (take (m .cores * m .objects) ps)
       → Follows (held m cs ps) call (r .answer) (lent (r .machine) cs′ ps′)
-      → Done cs ps (rule e (held m cs ps) call) r (cs′ ++ drop (m .objects) cs) (ps′ ++ drop (m .cores * m .objects) ps)
+      → Done cs ps (rule (held m cs ps) call) r (cs′ ++ drop (m .objects) cs) (ps′ ++ drop (m .cores * m .objects) ps)
   acted cs′ ps′ cl′ pl′ f =
-      let alike = rule-alike (coreNamed (r .answer)) e (held m cs ps) call in
       let g′ = keeps-good (case-of f) g in
       let front = front-held (r .machine) cs′ ps′ (drop (m .objects) cs) (drop (m .cores * m .objects) ps) g′ in (
-        ap said (f .answer-is) ∙ alike .0,
+        f .answer-is,
         (
-          front ∙ f .world-is ∙ alike .1,
+          front ∙ f .world-is,
           (
             record {
               committed-long = length-front cs cs′ (m .objects) cl′ ∙ cl;
@@ -100,8 +56,8 @@ module _ (m : Machine) (cs ps : List ℕ) (g : WellFormedWorld (held m cs ps)) (
               blank-or-well-formed = inr (subst WellFormedWorld (sym front) g′);
             },
             (
-              over-front (m .objects) cs cs′ _ cl′ (ap (λ (x : World). x .committed) (f .world-is ∙ alike .1)),
-              over-front (m .cores * m .objects) ps ps′ _ pl′ (ap (λ (x : World). x .pending) (f .world-is ∙ alike .1)),
+              over-front (m .objects) cs cs′ _ cl′ (ap (λ (x : World). x .committed) (f .world-is)),
+              over-front (m .cores * m .objects) ps ps′ _ pl′ (ap (λ (x : World). x .pending) (f .world-is)),
             ),
           ),
         ),

@@ -13,7 +13,7 @@ use Rattle.core.specs.Parts.{least, running}
 use Rattle.machine.specs.Sound.{inRange, setsWithin, ownerListed, idleClear, zombieEmpty, fewJobs, unusedJobs, lackedCores, lackedObjects, ownerFirst, ticketsDiffer, ticketsGiven, ticketsCounted, versionsBounded, smallerTickets, abortsBounded, sound}
 use Rattle.core.specs.Calls.{first}
 use Rattle.machine.specs.Rule as Rule
-use Rattle.machine.specs.Rule.{unless, unlessLent, setup, released, release, begun, begin, setBackTold, accessRefusal, valueRead, valued, read, written, write, contender, blocked, leastOf, cleared, changed, through, commitRefusal, commit, ended, giveUp, finished, finish, rule}
+use Rattle.machine.specs.Rule.{unless, unlessLent, setup, released, release, begun, begin, setBackTold, accessRefusal, valueRead, valued, read, written, write, contender, blocked, leastBy, cleared, changed, through, commitRefusal, commit, ended, giveUp, finished, finish, rule}
 use Rattle.core.specs.Life.{struckBy}
 use Rattle.core.specs.declared.Answer.{Answer}
 use Rattle.core.specs.declared.Answer.the-variants.{Running, Begun, Written, Committed, Refused}
@@ -47,7 +47,7 @@ caseA =
     ∷ ("read 1 0 -", "7 value 0")
     ∷ ("write 0 0 30", "8 written -")
     ∷ ("write 1 1 4", "9 written -")
-    ∷ ("commit 1 - -", "10 waits -")
+    ∷ ("commit 1 - -", "10 waits 0")
     ∷ ("commit 0 - -", "11 committed 0")
     ∷ ("commit 1 - -", "12 setback -")
     ∷ ("read 1 0 -", "13 value 30")
@@ -112,7 +112,7 @@ computed : (map (λ row. listing (row .0)) table ≡ map (λ row. row .1) table)
     ≡ (did (Rule.Commit 0) (Committed 0) ∷ did (Rule.Write 0 0 5) Written ∷ did (Rule.Begin 0) (Begun 0)
     ∷ did (Rule.Release 0 7 90) Running ∷ did (Rule.Begin 0) (Refused 7) ∷ [])
     ∷ (did (Rule.Finish 0) (Refused 7) ∷ []) ∷ [])
-unfolding table twoRuns events endsRun anew event eventOf byLine whole caseA caseK caseL ends bytes flatten listing listed rowsOf rowsAfter valueRows answered met request setUp lines Pieces.withoutLastEmpty pieces onto same names ordered place spells meant fields verb field numbered withNumber withDash spelt readsAs isNumber allDigits noLeadingZero valueAfter spelling spellingIn line said rule setup first unless unlessLent released release begun begin setBackTold accessRefusal valueRead valued read written write contender blocked leastOf struckBy cleared changed through commitRefusal commit ended giveUp finished finish tally least running inRange setsWithin ownerListed idleClear zombieEmpty fewJobs unusedJobs lackedCores lackedObjects ownerFirst ticketsDiffer ticketsGiven ticketsCounted versionsBounded smallerTickets abortsBounded sound has collect some each none added joined meeting below
+unfolding table twoRuns events endsRun anew event eventOf byLine whole caseA caseK caseL ends bytes flatten listing listed rowsOf rowsAfter valueRows answered met request setUp lines Pieces.withoutLastEmpty pieces onto same names ordered place spells meant fields verb field numbered withNumber withDash spelt readsAs isNumber allDigits noLeadingZero valueAfter spelling spellingIn line said rule setup first unless unlessLent released release begun begin setBackTold accessRefusal valueRead valued read written write contender blocked leastBy struckBy cleared changed through commitRefusal commit ended giveUp finished finish tally least running inRange setsWithin ownerListed idleClear zombieEmpty fewJobs unusedJobs lackedCores lackedObjects ownerFirst ticketsDiffer ticketsGiven ticketsCounted versionsBounded smallerTickets abortsBounded sound has collect some each none added joined meeting below
 computed = (refl, refl)
 
 each-listing : map (λ row. listing (row .0)) table ≡ map (λ row. row .1) table

@@ -24,7 +24,7 @@ use Rattle.request.specs.Asks.{mostLines, asks}
 use Rattle.runner.specs.Listing.{nothing}
 use Rattle.runner.specs.Kept.{held, listedFrom, unfinished, rest, BlankOrSound, ReadingFits, KeptState, state, pastLine, afterByte, fed}
 use Rattle.runner.proofs.Asking.{lists, goes, ordered, outcome}
-use Rattle.runner.proofs.LineLaws.{byte-lost, line-said, text, Leads, line-leads}
+use Rattle.runner.proofs.LineLaws.{byte-lost, text, Leads, line-leads}
 use Rattle.runner.proofs.Acts.{Done, none-done}
 use Rattle.runner.proofs.Sizes.{nothing-if-none}
 use Rattle.runner.proofs.Written.{written as put-written}
@@ -258,7 +258,7 @@ module _ (r₀ : Reading) (cs₀ ps₀ out₀ chunk : List ℕ) (r : Reading) (c
       let put-part = put-written (r .number) answer lent part k (part-room out written room) count bytes in
       rw (part-last out written, append-nil part)
       (line-over b same on goes-on (record { machine = m′; answer = answer }) cs′ ps′ did k part
-      (put-part .0 ∙ line-said (r .number) answer _ (did .0) ∙ sym (ap (λ (x : Bool). cond x (line (r .number) (outcome w b .answer)) []) listed))
+      (put-part .0 ∙ ap (line (r .number)) (did .0) ∙ sym (ap (λ (x : Bool). cond x (line (r .number) (outcome w b .answer)) []) listed))
       (put-part .1) (put-part .2 ∙ ap (drop k) (part-whole out written)) (long ∙ ap length (part-whole out written)))
 
 -- the whole chunk

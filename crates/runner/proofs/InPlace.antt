@@ -22,7 +22,7 @@ use Rattle.machine.specs.Rule as Rule
 use Rattle.machine.specs.Rule.{changed}
 use Rattle.machine.specs.Inside.{WellFormedWorld}
 use Rattle.machine.specs.OneCore.{callOf, found, firstHolding, struckAll}
-use Rattle.machine.proofs.Binds.{act-follows, commit-follows}
+use Rattle.machine.proofs.Binds.{follows, commit-follows}
 use Rattle.machine.proofs.CoreCalls.{by-core-at, to-core, to-object, to-slot}
 use Rattle.machine.proofs.CommitLaws.{by-commit-at, row-within}
 use Rattle.machine.proofs.Entries.{changed-long}
@@ -100,7 +100,7 @@ module _ (m : Machine) (cs ps : List ℕ) (g : WellFormedWorld (held m cs ps)) (
       (subst (λ (y : List ℕ). ByRequest m cs ps (Asks (callOf a c)) (backed to r) (take dl cs ++ drop dl cs) y) (sym (front-set nl _ (r .pending) ps slot-there))
       (lent-done m cs ps g cl pl (backed to r) (callOf a c) (take dl cs) (set (take nl ps) (to .core * m .objects + to .object) (r .pending)) refl
       (length-set (take nl ps) _ (r .pending))
-      (act-follows (held m cs ps) a c (r .answer) _ (by-core-at (held m cs ps) (g .world-sound) a c d to (saw to) r p q seen-front h))))
+      (follows (held m cs ps) (callOf a c) (r .answer) _ (by-core-at (held m cs ps) (g .world-sound) a c d to (saw to) r p q seen-front h))))
     where
       slot-there : to .core * m .objects + to .object < length (take nl ps)
       slot-there = omega (arith, to-slot m (g .world-sound .is-sound) c d to q, g .world-sound .pending-long)
@@ -154,7 +154,7 @@ module _ (m : Machine) (cs ps : List ℕ) (g : WellFormedWorld (held m cs ps)) (
       subst (λ (t : List ℕ). ByRequest m cs ps (Asks (Rule.Commit c)) (carried r cores versions) words t) (take-append-drop nl ps)
       (subst (λ (t : List ℕ). ByRequest m cs ps (Asks (Rule.Commit c)) (carried r cores versions) t (take nl ps ++ drop nl ps)) (sym (z ∙ front))
       (lent-done m cs ps g cl pl (carried r cores versions) (Rule.Commit c) (moved-words to r) (take nl ps) (changed-long (r .writes) _ 0 (take dl cs)) refl
-      (commit-follows m (take dl cs) (take nl ps) (carried r cores versions) (moved-words to r) (take nl ps) c (rw (x, y) (by .0)) (by .1))))
+      (commit-follows m (take dl cs) (take nl ps) (carried r cores versions) (moved-words to r) (take nl ps) c (rw (x, y) by))))
     where
       word : (d : ℕ) → d < dl → getD ps (to .core * m .objects + d) 0 ≡ getD (take nl ps) (to .core * m .objects + d) 0
       word d l =

@@ -8,7 +8,6 @@ use lib.Dec.{eqb, ltb}
 use lib.ListN.{length, length-append}
 use borrow.Author.Tests.{ne-eqb, lt-ltb, le-ltb, eqb-true, eqb-false, ltb-true, ltb-false}
 use Rattle.machine.specs.Rule.{World}
-use Rattle.core.specs.declared.Answer.{Answer}
 use Rattle.core.specs.declared.Answer.the-variants.{Refused}
 use Rattle.script.specs.declared.Columns.{Columns}
 use Rattle.script.specs.declared.Names.{Names}
@@ -16,8 +15,7 @@ use Rattle.script.specs.declared.Names.the-variants as Names
 use Rattle.script.specs.Pieces.{lines, pieces, onto, withoutLastEmpty, free}
 use Rattle.script.specs.Line.{names, spells, fields, ordered as inOrder, place}
 use Rattle.script.proofs.Laws.{too-long, names-too-long, lines-begun, lines-last, some-piece, first, others, rest-of-line, later-lines}
-use Rattle.decimal.specs.Spelling.{spelling}
-use Rattle.listing.specs.Text.{line, said}
+use Rattle.listing.specs.Text.{line}
 use Rattle.request.specs.declared.Asked.{Asked}
 use Rattle.request.specs.declared.Asked.the-variants as Asked
 use Rattle.request.specs.Asks.{mostLines, ofNames, ofLine, asks}
@@ -26,11 +24,6 @@ use Rattle.runner.specs.Kept.{listedFrom, lineEnd, namesEnd}
 use Rattle.runner.proofs.Asking.{lists, goes, ordered, outcome, Plain, line-plain, line-answered}
 
 -- ---- a line that has ended
-
--- what an answer says is all that the listing shows of it
-pub line-said : (n : ℕ) (a b : Answer) → said a ≡ said b → line n a ≡ line n b
-unfolding line
-line-said n a b e = ap (λ (x : List ℕ). spelling n ++ x) e
 
 module _ (at : Columns) (w : World) (l : List ℕ) (ls : List (List ℕ)) where
   pub names-good : (at′ : Columns) → names l ≡ Names.Order at′ → listedFrom true at 1 w (l ∷ ls) ≡ listedFrom true at′ 2 nothing ls

@@ -9,12 +9,11 @@ use lib.Dec.{ltb}
 use lib.ListN.{length, drop, getD, replicate, length-append}
 use Rattle.machine.specs.Record.{sizesInRange}
 use Rattle.machine.specs.Rule as Rule
-use Rattle.machine.specs.Rule.{World, Result, rule, firstAhead, coreOf}
+use Rattle.machine.specs.Rule.{World, Result, rule}
 use Rattle.machine.specs.Words.{Event}
 use Rattle.machine.specs.Claims.{Run, fresh, then, Claim, worked}
 use Rattle.core.specs.declared.Answer.{Answer}
 use Rattle.core.specs.declared.Answer.the-variants.{Ready}
-use Rattle.machine.proofs.CanFollow.{rule-follows, first-contends}
 use Rattle.machine.proofs.Run.WholeRun.{whole-run}
 use Rattle.script.specs.declared.Call.{Call}
 use Rattle.script.specs.declared.Call.the-variants as Call
@@ -48,9 +47,8 @@ run-on at w₀ w n es (l ∷ ls) run = go (ltb mostLines n) (λ w′ es′ r. ru
     asked (Anew cores cards) more = unfold anew in (w, run)
     asked (Asks call) more =
         unfold anew eventOf met in
-        more (rule (firstAhead (w .machine) (coreOf call)) w call .world)
-        (record { call = call; answer = rule (firstAhead (w .machine) (coreOf call)) w call .answer } ∷ es)
-        (then call _ run (rule-follows (firstAhead (w .machine) (coreOf call)) w call (first-contends (w .machine) (coreOf call))))
+        more (rule w call .world) (record { call = call; answer = rule w call .answer } ∷ es)
+        (then call _ run (record { answer-is = refl; world-is = refl }))
 
     row : (x : Line) → More
         → (w″ : World)

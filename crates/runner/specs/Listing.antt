@@ -6,7 +6,7 @@ use lib.Dec.{ltb}
 use lib.ListN.{replicate}
 use Rattle.machine.specs.Record.{blank, sizesInRange}
 use Rattle.machine.specs.Rule as Rule
-use Rattle.machine.specs.Rule.{World, Result, lent, rule, firstAhead, coreOf}
+use Rattle.machine.specs.Rule.{World, Result, lent, rule}
 use Rattle.core.specs.declared.Answer.{Answer}
 use Rattle.core.specs.declared.Answer.the-variants.{Refused}
 use Rattle.script.specs.declared.Call.{Call}
@@ -48,10 +48,10 @@ request (Call.Commit c) = Asks (Rule.Commit c)
 request (Call.GiveUp c) = Asks (Rule.GiveUp c)
 request (Call.Finish c) = Asks (Rule.Finish c)
 
--- a call by its rule; a listing does not show the core that waits names, here the least
+-- a call by its rule
 unfoldable pub met : World → Request → Result
 met w (Anew cores cards) = setUp cores cards
-met w (Asks call) = rule (firstAhead (w .machine) (coreOf call)) w call
+met w (Asks call) = rule w call
 
 -- a line that is not a call yields refusal 11
 unfoldable pub answered : World → Line → Result

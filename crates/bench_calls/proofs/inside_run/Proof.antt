@@ -334,13 +334,13 @@ loop-again-4 c =
     let w = lent (at .m) (at .committed) (at .pending) in
     let by = by-commit-at w (at .inv .3 .world-sound) (at .inv .3 .formed .core-long) _ (to .find2 .result) _ (done .settle .result) (to .find2 .ensures) (done .before .ahead-of .ensures) (done .settle .ensures) in
     let all = striking-done (last .loop2 .inv .1) (omega (arith, c .loop2-test .left)) in
-    let same = carried-out w (to .find2 .result .core) (done .settle .result) _ _ _ (moved .ensures .0) (moved .ensures .1) all ∙ by .0 in
+    let same = carried-out w (to .find2 .result .core) (done .settle .result) _ _ _ (moved .ensures .0) (moved .ensures .1) all ∙ by in
     let r : Outcome = record { answer = done .settle .result .answer; machine = last .loop2 .m } in
     let long = moved .kept .1 .1 .0 in (
       omega (arith, test),
       long ∙ at .inv .1,
       at .inv .2,
-      commit-left (at .m) (at .committed) (at .pending) (at .inv .3) r _ _ _ same (by .1),
+      commit-left (at .m) (at .committed) (at .pending) (at .inv .3) r _ _ _ same,
       same-lengths _ _ _ _ _ (at .inv .4) long refl,
       calls _ _ _ _ _ (at .inv .5) test (asks .before .before .if1 .left) (asks .before .if2 .left) r _ _
           (commit-asked _ _ _ _ _ _ _ _ _ (sym (asks .asked .ensures) ∙ to .before .enum-told .given .1) same),

@@ -4,7 +4,7 @@ use crate::Core;
 use crate::inside::jobs::running_of;
 ghost use mathlib.Core.Path.{_≡_};
 ghost use Prim.Native.Nat.{_≤_, _<_};
-ghost use Rattle.core.specs.Life.{withTransaction, unmarked, withRead, withWrite, conflicting, holdsBack, isStruck, aborted, over};
+ghost use Rattle.core.specs.Life.{withTransaction, unmarked, withRead, withWrite, conflicting, conflictsBelow, isStruck, aborted, over};
 ghost use Rattle.core.specs.Parts.{mostJobs};
 
 // The running job's transaction begins, with this ticket.
@@ -60,12 +60,13 @@ fn conflict_of(a: Core, b: Core) -> bool
     objset::meets(b.writes, objset::union(a.reads, a.writes))
 }
 
-// Whether core b holds a conflicting transaction with a smaller ticket than core a's.
-pub fn holds_back(b: Core, a: Core) -> bool
-    ensures { λ r. ⌜ r ≡ holdsBack b a ⌝ }
+// Whether core b holds a transaction that conflicts with core a's and has a smaller ticket than `below`; where that is the ticket of a
+// itself, whether it holds that one back.
+pub fn holds_back(b: Core, a: Core, below: u32) -> bool
+    ensures { λ r. ⌜ r ≡ conflictsBelow below b a ⌝ }
 {
     if b.active {
-        if b.ticket < a.ticket {
+        if b.ticket < below {
             return conflict_of(a, b);
         }
         return false;

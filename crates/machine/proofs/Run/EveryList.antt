@@ -1,10 +1,9 @@
 -- Every list of calls has a run: the claim about whole runs speaks of each of them.
 use mathlib.Core.Path.{_≡_, refl, ap}
 use mathlib.Core.List.{List, [], _∷_}
-use Rattle.machine.specs.Rule.{World, Call}
+use Rattle.machine.specs.Rule.{World, Result, Call, rule}
 use Rattle.machine.specs.Words.{Event}
 use Rattle.machine.specs.Claims.{Run, fresh, then}
-use Rattle.machine.proofs.CanFollow.{can-follow}
 
 -- the calls of a list of events
 unfoldable pub calls : List Event → List Call
@@ -17,5 +16,5 @@ unfolding calls
 every-list-runs w₀ [] = ([], w₀, fresh, refl)
 every-list-runs w₀ (c ∷ cs) =
     let before = every-list-runs w₀ cs in
-    let now = can-follow (before .1) c in
-    (record { call = c; answer = now .0 } ∷ before .0, now .1, then c (now .0) (before .2) (now .2), ap (_∷_ c) (before .3))
+    let now : Result = rule (before .1) c in
+    (record { call = c; answer = now .answer } ∷ before .0, now .world, then c (now .answer) (before .2) (record { answer-is = refl; world-is = refl }), ap (_∷_ c) (before .3))

@@ -24,6 +24,7 @@ served o h a =
       waits-behind = λ late early c e q.
           let w = at-moment late (waits c e ∷ early) q .0 in
           (w .going, w .earlier, w .in-conflict);
+      none-before = λ late early c e b q. at-moment late (waits c e ∷ early) q .0 .first b;
       reported = λ late early c n e.
           let k = at-moment late (commits c n ∷ early) e .0 in
           (k .reports, k .reports ∙ k .acting .all-told);

@@ -1,46 +1,89 @@
 -- Every call that follows the rule finds what Orderly.antt says and keeps the agreement; so does a whole run after an accepted
 -- setup.
 use mathlib.Core.Path.{_≡_, refl, sym, ap, ap₂, _∙_}
-use mathlib.Core.Bool.{Bool, true, false, cond, _||_, true≢false}
+use mathlib.Core.Bool.{Bool, true, false, cond, _&&_, _||_, true≢false}
 use mathlib.Core.List.{List, [], _∷_}
 use Prim.Native.Nat.{ℕ, suc, _+_, _<_}
 use native.Mathlib.Numerals.{one-add}
 use native.Mathlib.Omega.{arith}
 use lib.Dec.{ltb}
 use lib.ListN.{replicate, getD-replicate, List·getD-eq-default}
-use borrow.Author.Tests.{ltb-true, ltb-false}
+use borrow.Author.Tests.{ltb-true, ltb-false, lt-ltb}
+use Rattle.core.specs.declared.Core.{Core}
 use Rattle.core.specs.declared.Answer.{Answer}
+use Rattle.machine.specs.declared.Machine.{Machine}
+use Rattle.core.specs.Life.{conflicting}
 use Rattle.machine.specs.Answers.{kind, values}
 use Rattle.core.specs.Parts.{noCore, blankCore}
 use Rattle.machine.specs.Record.{coreAt, machineOf, sizesInRange}
 use Rattle.machine.specs.Rule as Rule
 use Rattle.machine.specs.Rule.{World, Call}
-use Rattle.machine.proofs.Case.{Case, is-refused, is-released, is-begun, is-told, is-valued, is-written, is-waiting, is-through, is-ended, is-finished, contends, case-of}
+use Rattle.machine.proofs.Case.{Case, is-refused, is-released, is-begun, is-told, is-valued, is-written, is-waiting, is-through, is-ended, is-finished, contends, First, case-of}
 use Rattle.machine.specs.Words.{Event, Deed, amounts, deeds, inProgress, births, born, any, wrote, conflict, attempt, struck, setBacks}
 use Rattle.machine.specs.Serial.{serial, version}
 use Rattle.machine.specs.Claims.{Run, fresh, then}
 use Rattle.machine.proofs.Sound.Passed.{in-range}
-use Rattle.machine.proofs.Run.Orderly.{Allowed, Orderly}
+use Rattle.machine.proofs.Run.Orderly.{Acting, Waiting, Allowed, Orderly}
 use Rattle.machine.proofs.Run.View.{view}
 use Rattle.machine.proofs.Run.CoreAgrees.{CoreAgrees, agrees-idle, meets-crosses}
 use Rattle.machine.proofs.Run.Agreement.{Agree, inside, acting, refused-other, told-amounts, agree-other, step-list, step-told, step-read, read-alone, step-write, step-waits, step-gives, step-begins}
 use Rattle.machine.proofs.Run.AgreementCommit.{step-commits, finds-commits}
 
--- the core that waits names has an earlier transaction in conflict
-finds-waits : {o : ℕ} {w : World} {h : List Deed} → Agree o w h → (c e : ℕ) → coreAt (w .machine) c .active ≡ true → Rule.contender (w .machine) c e ≡ true
-    → (inProgress h e ≡ true) × (born h e < born h c) × (conflict h c e ≡ true)
-unfolding conflict
-finds-waits {o} {w} {h} a c e going ahead =
-    let k = coreAt (w .machine) c in
-    let j = coreAt (w .machine) e in
-    let found = contends (w .machine) c e ahead in
-    let there : inProgress h e ≡ true = sym (a .each-core e .same-going) ∙ found .0 in
-    let here : inProgress h c ≡ true = sym (a .each-core c .same-going) ∙ going in (
-      there,
-      omega (arith, found .1, a .each-core e .same-order there, a .each-core c .same-order here),
-      sym (ap₂ _||_ (meets-crosses k j (view h c) (view h e) (a .each-core c) (a .each-core e)) (meets-crosses j k (view h e) (view h c) (a .each-core e) (a .each-core c)))
-          ∙ found .2,
-    )
+-- a commit of core c that waits
+module _ {o : ℕ} {w : World} {h : List Deed} (a : Agree o w h) (c : ℕ) (going : coreAt (w .machine) c .active ≡ true) where
+  abbrev m : Machine
+  m = w .machine
+
+  here : inProgress h c ≡ true
+  here = sym (a .each-core c .same-going) ∙ going
+
+  -- two conflict by the record if they do by the words
+  same-conflict : (e : ℕ) → conflicting (coreAt m c) (coreAt m e) ≡ conflict h c e
+  unfolding conflict
+  same-conflict e =
+      let k = coreAt m c in
+      let j = coreAt m e in
+      ap₂ _||_ (meets-crosses k j (view h c) (view h e) (a .each-core c) (a .each-core e)) (meets-crosses j k (view h e) (view h c) (a .each-core e) (a .each-core c))
+
+  -- a contender is an earlier one in conflict
+  found-ahead : (e : ℕ) → Rule.contender m c e ≡ true → (inProgress h e ≡ true) × (born h e < born h c) × (conflict h c e ≡ true)
+  found-ahead e ahead =
+      let found = contends m c e ahead in
+      let there : inProgress h e ≡ true = sym (a .each-core e .same-going) ∙ found .0 in
+      (there, omega (arith, found .1, a .each-core e .same-order there, a .each-core c .same-order here), sym (same-conflict e) ∙ found .2)
+
+  -- and an earlier one in conflict is a contender
+  ahead-found : (b : ℕ) → inProgress h b ≡ true → born h b < born h c → conflict h c b ≡ true → Rule.contender m c b ≡ true
+  unfolding Rule.contender
+  ahead-found b there less clash =
+      ap₂ _&&_
+      (ap₂ _&&_ (a .each-core b .same-going ∙ there)
+      (lt-ltb (coreAt m b .ticket) (coreAt m c .ticket) (omega (arith, less, a .each-core b .same-order there, a .each-core c .same-order here))))
+      (same-conflict b ∙ clash)
+
+  -- one in progress is on one of the sixteen cores
+  has-place : (b : ℕ) → inProgress h b ≡ true → b < 16
+  has-place b there = go (ltb b 16) refl
+    where
+      go : (q : Bool) → ltb b 16 ≡ q → b < 16
+      go true q = ltb-true b 16 q
+      go false q =
+          absurd (true≢false (sym (a .each-core b .same-going ∙ there)
+          ∙ ap (λ (k : Core). k .active) (List·getD-eq-default (m .core) noCore (omega (arith, a .cores-long, ltb-false b 16 q)))))
+
+  finds-waits : (e : ℕ) → Acting h c → First m c e → Waiting h c e
+  finds-waits e acting f =
+      let found = found-ahead e (f .passes) in
+      record {
+        acting = acting;
+        going = found .0;
+        earlier = found .1;
+        in-conflict = found .2;
+        first =
+            λ b there less clash.
+            omega
+            (arith, f .smallest b (has-place b there) (ahead-found b there less clash), a .each-core e .same-order (found .0), a .each-core b .same-order there);
+      }
 
 -- a marked one has one strike that it was not told of
 one-untold : {o : ℕ} {w : World} {h : List Deed} → Agree o w h → (c : ℕ) → inProgress h c ≡ true → coreAt (w .machine) c .zombie ≡ true
@@ -61,8 +104,7 @@ step a (is-valued {c = c} {d = d} ok hd z) =
     (record { acting = acting a ok z; is-object = omega (arith, a .same-objects); alone = read-alone a c d ok hd }, step-read a c d _ ok hd z)
 step a (is-written {c = c} {d = d} {v = v} ok hd z) = ((acting a ok z, omega (arith, a .same-objects)), step-write a c d v ok hd z)
 step a (is-waiting {c = c} {e = e} ok z ahead) =
-    let found = finds-waits a c e (ok .active) ahead in
-    (record { acting = acting a ok z; going = found .0; earlier = found .1; in-conflict = found .2 }, step-waits a c e)
+    (finds-waits a c (ok .active) e (acting a ok z) ahead, step-waits a c e)
 step a (is-through {c = c} ok z free) = (finds-commits a c ok z free, step-commits a c ok)
 step a (is-ended {c = c} ok going) = ((inside a ok, sym (a .each-core c .same-going) ∙ going), step-gives a c ok)
 step a (is-finished {c = c} ok job idle) = (tt, step-list a c _ _ ok)

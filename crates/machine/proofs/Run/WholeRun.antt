@@ -1,17 +1,14 @@
 -- The claim about whole runs holds.
 use mathlib.Core.Path.{_≡_, refl, sym, ap, subst, _∙_}
-use mathlib.Core.Bool.{Bool, true, false, cond}
 use mathlib.Core.List.{List, [], _∷_, _++_}
-use Prim.Native.Nat.{ℕ, zero, suc}
+use Prim.Native.Nat.{ℕ}
 use native.Mathlib.Omega.{arith}
 use lib.ListN.{getD}
 use Rattle.machine.specs.declared.Outcome.{Outcome}
 use Rattle.core.specs.declared.Answer.{Answer}
 use Rattle.core.specs.declared.Answer.the-variants.{Ready, Value}
-use Rattle.machine.specs.Answers.{coreNamed}
-use Rattle.machine.specs.Record.{coreAt}
 use Rattle.machine.specs.Rule as Rule
-use Rattle.machine.specs.Rule.{World, lent, left, Call, Release, Begin, Read, Write, Commit, GiveUp, Finish, rule}
+use Rattle.machine.specs.Rule.{World, lent, left, Call, Read, rule}
 use Rattle.machine.specs.Follows.{Follows}
 use Rattle.machine.proofs.Case.{Case, is-refused, is-released, is-begun, is-told, is-valued, is-written, is-waiting, is-through, is-ended, is-finished, case-of, setup-case}
 use Rattle.machine.specs.Words.{Event, Deed, deeds}
@@ -44,30 +41,11 @@ run-through (x ∷ late) early run p =
 
 -- ---- worked over the calls alone
 
--- the next world does not depend on the core that waits names
-waiting-alike : (r : ℕ) (z b : Bool) (e : ℕ) (w : World) (told through : Rule.Result)
-    → Rule.unlessLent r w (cond z told (cond b (Rule.waiting w e) through)) .world ≡ Rule.unlessLent r w (cond z told (cond b (Rule.waiting w 0) through)) .world
-unfolding Rule.unlessLent
-waiting-alike zero true b e w told through = refl
-waiting-alike zero false true e w told through = refl
-waiting-alike zero false false e w told through = refl
-waiting-alike (suc n) z b e w told through = refl
-
-any-named : (e : ℕ) (w : World) (call : Call) → rule e w call .world ≡ rule 0 w call .world
-unfolding rule Rule.commit
-any-named e w (Release c number deadline) = refl
-any-named e w (Begin c) = refl
-any-named e w (Read c d) = refl
-any-named e w (Write c d v) = refl
-any-named e w (Commit c) = waiting-alike _ (coreAt (w .machine) c .zombie) (Rule.blocked (w .machine) c) e w _ _
-any-named e w (GiveUp c) = refl
-any-named e w (Finish c) = refl
-
 run-worked : {w₀ w : World} {es : List Event} → Run w₀ es w → w ≡ worked w₀ es
 unfolding worked
 run-worked fresh = refl
-run-worked (then {w = v} call a run f) =
-    f .world-is ∙ any-named (coreNamed a) v call ∙ ap (λ (u : World). rule 0 u call .world) (run-worked run)
+run-worked (then call a run f) =
+    f .world-is ∙ ap (λ (u : World). rule u call .world) (run-worked run)
 
 by-the-rule : {w₀ w : World} {es : List Event} → Run w₀ es w → ByTheRule w₀ es w
 by-the-rule {w₀} run =
@@ -78,7 +56,7 @@ by-the-rule {w₀} run =
           λ late early e p.
           let r = run-through late (e ∷ early) run p in
           let l = last-call (r .1) e early refl in
-          l .2 .answer-is ∙ ap (λ (u : World). rule (coreNamed (e .answer)) u (e .call) .answer) (run-worked (l .1));
+          l .2 .answer-is ∙ ap (λ (u : World). rule u (e .call) .answer) (run-worked (l .1));
     }
 
 -- ---- the version that a read gives

@@ -18,8 +18,8 @@ use Rattle.machine.specs.Inside.{WellFormedWorld}
 -- ---- after an accepted setup refusals 2 and 3 never come
 
 -- a number that is given applies
-given-applies : (e : ℕ) (w : World) (call : Call) (n : ℕ) → refusalNumber (rule e w call .answer) ≡ suc n → applies (suc n) (refusals w call) ≡ true
-given-applies e w call n p = subst (λ (k : ℕ). Smallest k (refusals w call)) p (smallest-given e w call) .it-applies (omega arith)
+given-applies : (w : World) (call : Call) (n : ℕ) → refusalNumber (rule w call .answer) ≡ suc n → applies (suc n) (refusals w call) ≡ true
+given-applies w call n p = subst (λ (k : ℕ). Smallest k (refusals w call)) p (smallest-given w call) .it-applies (omega arith)
 
 -- a condition that is given by the failing of t, for calls that can be refused so
 failed : (can t : Bool) → (can && not t || false) ≡ true → t ≡ false
@@ -27,17 +27,17 @@ failed true true p = absurd (true≢false (sym p))
 failed true false p = refl
 failed false t p = absurd (true≢false (sym p))
 
-pub never-unsound : (e : ℕ) {w : World} (call : Call) → WellFormedWorld w → refusalNumber (rule e w call .answer) ≡ 2 → ⊥
+pub never-unsound : {w : World} (call : Call) → WellFormedWorld w → refusalNumber (rule w call .answer) ≡ 2 → ⊥
 unfolding refusals applies
-never-unsound e {w} call g p = true≢false (sym (g .world-sound .is-sound) ∙ failed true (sound (w .machine)) (given-applies e w call 1 p))
+never-unsound {w} call g p = true≢false (sym (g .world-sound .is-sound) ∙ failed true (sound (w .machine)) (given-applies w call 1 p))
 
-pub never-misfit : (e : ℕ) {w : World} (call : Call) → WellFormedWorld w → refusalNumber (rule e w call .answer) ≡ 3 → ⊥
+pub never-misfit : {w : World} (call : Call) → WellFormedWorld w → refusalNumber (rule w call .answer) ≡ 3 → ⊥
 unfolding refusals applies
-never-misfit e {w} call g p =
+never-misfit {w} call g p =
     let fit =
     ap₂ _&&_ (eq-eqb (length (w .committed)) (w .machine .objects) (g .world-sound .committed-long))
     (eq-eqb (length (w .pending)) (w .machine .cores * w .machine .objects) (g .world-sound .pending-long)) in
-    true≢false (sym fit ∙ failed (at call false false true true true false false) _ (given-applies e w call 2 p))
+    true≢false (sym fit ∙ failed (at call false false true true true false false) _ (given-applies w call 2 p))
 
 -- ---- which calls change a table
 
@@ -64,28 +64,28 @@ pending w = w .pending
 committed : World → List ℕ
 committed w = w .committed
 
-pub only-write-pending : (e : ℕ) (w : World) (call : Call) → isWrite call ≡ false → rule e w call .world .pending ≡ w .pending
+pub only-write-pending : (w : World) (call : Call) → isWrite call ≡ false → rule w call .world .pending ≡ w .pending
 unfolding rule pending read commit setBackTold valued through
-only-write-pending e w (Release c number deadline) p = refl
-only-write-pending e w (Begin c) p = refl
-only-write-pending e w (Read c d) p =
+only-write-pending w (Release c number deadline) p = refl
+only-write-pending w (Begin c) p = refl
+only-write-pending w (Read c d) p =
     lent-keeps pending w _ _ (either-keeps pending w (coreAt (w .machine) c .zombie) (setBackTold w c) (valued w c d) refl refl)
-only-write-pending e w (Write c d v) p = absurd (true≢false p)
-only-write-pending e w (Commit c) p =
+only-write-pending w (Write c d v) p = absurd (true≢false p)
+only-write-pending w (Commit c) p =
     lent-keeps pending w _ _
     (either-keeps pending w (coreAt (w .machine) c .zombie) (setBackTold w c) _ refl
-    (either-keeps pending w (blocked (w .machine) c) (waiting w e) (through w c) refl refl))
-only-write-pending e w (GiveUp c) p = refl
-only-write-pending e w (Finish c) p = refl
+    (either-keeps pending w (blocked (w .machine) c) (waiting w c) (through w c) refl refl))
+only-write-pending w (GiveUp c) p = refl
+only-write-pending w (Finish c) p = refl
 
-pub only-commit-committed : (e : ℕ) (w : World) (call : Call) → isCommit call ≡ false → rule e w call .world .committed ≡ w .committed
+pub only-commit-committed : (w : World) (call : Call) → isCommit call ≡ false → rule w call .world .committed ≡ w .committed
 unfolding rule committed read write setBackTold valued written
-only-commit-committed e w (Release c number deadline) p = refl
-only-commit-committed e w (Begin c) p = refl
-only-commit-committed e w (Read c d) p =
+only-commit-committed w (Release c number deadline) p = refl
+only-commit-committed w (Begin c) p = refl
+only-commit-committed w (Read c d) p =
     lent-keeps committed w _ _ (either-keeps committed w (coreAt (w .machine) c .zombie) (setBackTold w c) (valued w c d) refl refl)
-only-commit-committed e w (Write c d v) p =
+only-commit-committed w (Write c d v) p =
     lent-keeps committed w _ _ (either-keeps committed w (coreAt (w .machine) c .zombie) (setBackTold w c) (written w c d v) refl refl)
-only-commit-committed e w (Commit c) p = absurd (true≢false p)
-only-commit-committed e w (GiveUp c) p = refl
-only-commit-committed e w (Finish c) p = refl
+only-commit-committed w (Commit c) p = absurd (true≢false p)
+only-commit-committed w (GiveUp c) p = refl
+only-commit-committed w (Finish c) p = refl

@@ -49,7 +49,7 @@ pub fn find(core: u32, object: u32, cores: u8, objects: u8) -> Found
 // A call that is lent no table: release, begin, give up, finish. (A read or a write would find tables of zeros.)
 pub fn alone(mut m: Machine, core: u32, a: Act) -> Outcome
     requires { ⌜ sound m ≡ true ⌝ }
-    ensures { λ r. ⌜ r ≡ handed (rule 0 (zeroed m) (callOf a core)) ⌝ }
+    ensures { λ r. ⌜ r ≡ handed (rule (zeroed m) (callOf a core)) ⌝ }
 {
     let to = find(core, object_of(a), m.cores, m.objects);
     let c = to.core;
@@ -74,7 +74,7 @@ pub fn alone(mut m: Machine, core: u32, a: Act) -> Outcome
 // A call that is lent the tables: read, write.
 pub fn access(mut m: Machine, core: u32, a: Act, committed: &[u32], pending: &mut [u32]) -> Outcome
     requires { ⌜ SoundWorld (lent m (now committed) (now pending)) ⌝ }
-    ensures { λ r. ⌜ left r (now (committed .entry)) (now (pending .exit)) ≡ rule 0 (lent m (now (committed .entry)) (now (pending .entry))) (callOf a core) ⌝ }
+    ensures { λ r. ⌜ left r (now (committed .entry)) (now (pending .exit)) ≡ rule (lent m (now (committed .entry)) (now (pending .entry))) (callOf a core) ⌝ }
 {
     let to = find(core, object_of(a), m.cores, m.objects);
     let c = to.core;

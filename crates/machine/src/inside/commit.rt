@@ -1,4 +1,4 @@
-// A transaction commits (document 01: commit): who is ahead of it, and what its write set changes in the tables, the versions and the
+// A transaction commits (document 01: commit): who is first ahead of it, and what its write set changes in the tables, the versions and the
 // other cores. `commit` asks for a sound record and tables of the right lengths, `write_back` and `strike` for what keeps their indices and
 // sums in range.
 use crate::Machine;
@@ -19,25 +19,25 @@ ghost use Prim.Native.Nat.{ℕ, _+_, _≤_, _<_};
 ghost use lib.ListN.{length, getD};
 ghost use Rattle.objset.specs.Objset.{mostObjects, has};
 ghost use Rattle.core.specs.Parts.{mostCores, noCore};
-ghost use Rattle.core.specs.declared.Answer.the-variants.{Waits};
-ghost use Rattle.machine.specs.Answers.{coreNamed};
 ghost use Rattle.machine.specs.Inside.{SoundWorld};
-ghost use Rattle.machine.specs.Rule.{lent, left, contender, changed, commit as commitRule};
+ghost use Rattle.machine.specs.Rule.{lent, left, changed, commit as commitRule};
 ghost use Rattle.machine.specs.OneCore.{firstHolding, struckAll};
 
-// The least core that holds the transaction of core k back; NOBODY where none does. The loop goes over all of them: with a constant bound the
-// compiler makes no copy of the record here.
+// The core whose transaction is first ahead of core k's: of those that hold it back the one of smallest ticket; NOBODY where none does.
+// `below` is the ticket to beat. The loop goes over all cores: with a constant bound the compiler makes no copy of the record here.
 pub fn ahead_of(m: Machine, k: Core) -> u8
     ensures { λ r. ⌜ r ≡ firstHolding (m .core) k ⌝ }
 {
     let mut ahead: u8 = NOBODY;
-    let mut e: u8 = NOBODY;
-    while 0 < e {
-        e -= 1;
+    let mut below = k.ticket;
+    let mut e: u8 = 0;
+    while e < NOBODY {
         let other = m.core[e as usize];
-        if holds_back(other, k) {
+        if holds_back(other, k, below) {
             ahead = e;
+            below = other.ticket;
         }
+        e += 1;
     }
     ahead
 }
@@ -99,8 +99,7 @@ fn strike(mut cores: [Core; CORES], ws: u64) -> [Core; CORES]
 // pending table keeps every word.
 pub fn commit(mut m: Machine, core: u32, committed: &mut [u32], pending: &mut [u32]) -> Outcome
     requires { ⌜ SoundWorld (lent m (now committed) (now pending)) ⌝ }
-    ensures rule { λ r. ⌜ left r (now (committed .exit)) (now (pending .exit)) ≡ commitRule (coreNamed (r .answer)) (lent m (now (committed .entry)) (now (pending .entry))) core ⌝ }
-    ensures waits { λ r. ⌜ ((e : ℕ) → r .answer ≡ Waits e → contender m core e ≡ true) ⌝ }
+    ensures rule { λ r. ⌜ left r (now (committed .exit)) (now (pending .exit)) ≡ commitRule (lent m (now (committed .entry)) (now (pending .entry))) core ⌝ }
 {
     let to = find(core, 0, m.cores, m.objects);
     let c = to.core;

@@ -15,7 +15,7 @@ is-sound-requires c κs = search needs
 returns : tie.Need-returns
 unfolding rule
 returns c =
-    lent-told (smallest-given 0 _ (Read _ _)) (unsound-refused 0 _ (Read _ _) (breaks (c .before .is-sound .ensures) (c .if1 .taken)))
+    lent-told (smallest-given _ (Read _ _)) (unsound-refused _ (Read _ _) (breaks (c .before .is-sound .ensures) (c .if1 .taken)))
 
 tables-fit-requires : tie.Need-tables-fit-requires
 tables-fit-requires c κs = search needs
@@ -25,8 +25,8 @@ unfolding rule
 returns-2 c =
     let fit = c .before in
     let else1 = fit .before in
-    lent-told (smallest-given 0 _ (Read _ _))
-    (misfit-refused 0 _ (Read _ _) refl (holds (else1 .before .is-sound .ensures) (else1 .if1 .left)) (breaks (fit .tables-fit .ensures) (c .if2 .taken)))
+    lent-told (smallest-given _ (Read _ _))
+    (misfit-refused _ (Read _ _) refl (holds (else1 .before .is-sound .ensures) (else1 .if1 .left)) (breaks (fit .tables-fit .ensures) (c .if2 .taken)))
 
 access-requires : tie.Need-access-requires
 access-requires c κs =
@@ -43,7 +43,7 @@ same-length-2 c = search needs
 
 returns-3 : tie.Need-returns-3
 unfolding rule
-returns-3 c = lent-told (smallest-given 0 _ (Read _ _)) (c .before .before .access .ensures)
+returns-3 c = lent-told (smallest-given _ (Read _ _)) (c .before .before .access .ensures)
 
 pub read-spec : {M : Type 1} → statement M
 read-spec =

@@ -8,10 +8,10 @@ conflict-of-requires : tie.Need-conflict-of-requires
 conflict-of-requires c κs = search needs
 
 returns : tie.Need-returns
-returns c = rw (c .before .before .before .before .if1 .taken, lt-ltb _ _ (c .before .if2 .taken)) (c .conflict-of .ensures)
+returns c = rw (c .before .before .before .if1 .taken, lt-ltb _ _ (c .before .if2 .taken)) (c .conflict-of .ensures)
 
 returns-2 : tie.Need-returns-2
-returns-2 c = rw (c .before .before .before .if1 .taken, le-ltb _ _ (c .if2 .left))
+returns-2 c = rw (c .before .before .if1 .taken, le-ltb _ _ (c .if2 .left))
 
 returns-3 : tie.Need-returns-3
 returns-3 c = rw (c .if1 .left)
