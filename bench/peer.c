@@ -1,5 +1,5 @@
 // peer < SCRIPT: the program `cards` once more, in C and tuned by hand, for `make bench` to measure `cards` beside. Written from
-// document 01 alone. It takes a script on standard input, in pieces of any size, and prints its listing on standard output, in
+// documents 01 and 02 alone. It takes a script on standard input, in pieces of any size, and prints its listing on standard output, in
 // constant memory. The machine is changed in place and its record is never tested. A line is read in one pass, where it lies; in
 // another order of columns than call, core, card, value its fields are put in that order first. Of the record it keeps what a
 // listing can show, and the versions: not whose job a transaction is, nor how many were committed and given up. A read or write
@@ -31,6 +31,15 @@ INLINE uint8_t *refused(uint8_t *out, int number) {
                                     "refused 6\n", "refused 7\n", "refused 8\n", "refused 9\n", "refused 10\n", "refused 11\n"};
   memcpy(out, text[number], 16);
   return out + sizeof "refused 1\n" - 1 + (number > 9);
+}
+
+INLINE uint8_t *waits(uint8_t *out, uint32_t core) {
+  static const char text[CORES_MOST][16] = {"waits 0\n",  "waits 1\n",  "waits 2\n",  "waits 3\n",
+                                            "waits 4\n",  "waits 5\n",  "waits 6\n",  "waits 7\n",
+                                            "waits 8\n",  "waits 9\n",  "waits 10\n", "waits 11\n",
+                                            "waits 12\n", "waits 13\n", "waits 14\n", "waits 15\n"};
+  memcpy(out, text[core], 16);
+  return out + sizeof "waits 0\n" - 1 + (core > 9);
 }
 
 // The eight digits of a number below 100,000,000, the first one in the lowest byte: by halves, by pairs, one by one.
@@ -113,8 +122,8 @@ struct core {
 static struct {
   uint32_t cores, objects;       // objects (document 01: cards)
   struct count tickets;          // tickets given
-  uint16_t active;               // the cores with a transaction in progress, core c at digit c
-  uint16_t earlier[CORES_MOST];  // of these, the ones with a smaller ticket than the core's own
+  unsigned queued;               // transactions in progress
+  uint8_t queue[2 * CORES_MOST]; // their cores, the smallest ticket first; the rest says nothing
   uint64_t data_set[CORES_MOST]; // read set and write set together
   uint64_t write_set[CORES_MOST];
   struct core core[CORES_MOST];
@@ -167,8 +176,7 @@ INLINE uint8_t *begin(uint8_t *out, uint32_t c) {
   if (core->status != NONE) return refused(out, 8);
   core->status = ACTIVE;
   core->aborts = 0;
-  machine.earlier[c] = machine.active;
-  machine.active |= (uint16_t)(1u << c);
+  machine.queue[machine.queued++] = (uint8_t)c;
   out = put_count(put(out, begun), machine.tickets);
   machine.tickets = next(machine.tickets, '\n');
   return out;
@@ -194,22 +202,21 @@ INLINE uint8_t *write_object(uint8_t *out, uint32_t c, uint32_t d, uint32_t valu
   return put(out, written);
 }
 
-// Ends the transaction on core c.
-INLINE void end(uint32_t c) {
+// Ends the transaction on core c, which stands at this place of the queue.
+INLINE void end(uint32_t c, unsigned place) {
   machine.core[c].status = NONE;
   machine.data_set[c] = machine.write_set[c] = 0;
-  machine.active &= (uint16_t) ~(1u << c);
-  for (int other = 0; other < CORES_MOST; other++) machine.earlier[other] &= (uint16_t) ~(1u << c);
+  memmove(machine.queue + place, machine.queue + place + 1, CORES_MOST);
+  machine.queued--;
 }
 
-// Whether a contender of core c's transaction has a smaller ticket.
-INLINE bool blocked(uint32_t c) {
+// The place in the queue of the first core in conflict with core c's transaction; if no such one is before it, core c's place.
+INLINE unsigned first_in_the_way(uint32_t c) {
   const uint64_t data_set = machine.data_set[c], write_set = machine.write_set[c];
-  for (unsigned earlier = machine.earlier[c]; earlier; earlier &= earlier - 1) {
-    unsigned other = (unsigned)__builtin_ctz(earlier);
-    if ((machine.data_set[other] & write_set) | (machine.write_set[other] & data_set)) return true;
-  }
-  return false;
+  unsigned place = 0;
+  for (unsigned other; (other = machine.queue[place]) != c; place++)
+    if ((machine.data_set[other] & write_set) | (machine.write_set[other] & data_set)) break;
+  return place;
 }
 
 // Sets back every transaction that has touched an object of the set.
@@ -223,12 +230,13 @@ INLINE void strike(uint64_t write_set) {
 }
 
 INLINE uint8_t *commit(uint8_t *out, uint32_t c) {
-  static const char waits[16] = "waits -\n", committed[16] = "committed ";
+  static const char committed[16] = "committed ";
   if (c >= machine.cores) return no_such_core(out);
   if (machine.core[c].status != ACTIVE) return no_attempt(out, &machine.core[c]);
-  if (blocked(c)) return put(out, waits);
+  const unsigned place = first_in_the_way(c), first = machine.queue[place];
+  if (first != c) return waits(out, first);
   const uint64_t write_set = machine.write_set[c];
-  end(c);
+  end(c, place);
   if (write_set) {
     for (uint64_t left = write_set; left; left &= left - 1) {
       int d = __builtin_ctzll(left);
@@ -244,7 +252,9 @@ INLINE uint8_t *give_up(uint8_t *out, uint32_t c) {
   static const char ended[16] = "ended -\n";
   if (c >= machine.cores) return no_such_core(out);
   if (machine.core[c].status == NONE) return refused(out, 9);
-  end(c);
+  unsigned place = 0;
+  while (machine.queue[place] != c) place++;
+  end(c, place);
   return put(out, ended);
 }
 

@@ -55,9 +55,16 @@ wrong "no tickets are compared" $commit 's/other.ticket < own.ticket/false/'
 wrong "a marked transaction keeps its sets" $commit '/other.*_set = 0;/d' \
   $transaction 's/self.core\[core\].zombie = false;/& self.core[core].read_set = 0; self.core[core].write_set = 0;/'
 wrong "a commit counts twice" $commit 's/other.aborts += 1/other.aborts += 2/'
-wrong "every commit waits" $commit 's/= self.earlier_in_conflict(c)/= Some(0)/'
+wrong "every commit waits" $commit 's/= self.first_in_the_way(c)/= Some(0)/'
 wrong "waits for later ones too" $commit 's/other.ticket < own.ticket/other.ticket != own.ticket/'
-wrong "waits for cores 0 and 1 only" $commit 's/(0..self.present().len()).find/(0..self.present().len().min(2)).find/'
+wrong "waits for cores 0 and 1 only" $commit 's/(0..self.present().len()).filter/(0..self.present().len().min(2)).filter/'
+wrong "waits names the least core in the way" $commit 's/min_by_key(|&other| self.core\[other\].ticket)/min()/'
+wrong "waits names the greatest ticket in the way" $commit 's/min_by_key/max_by_key/'
+wrong "waits names the smallest ticket in progress" $commit \
+  's/core: first as u32/core: (0..16).filter(|\&o| self.core[o].in_progress).min_by_key(|\&o| self.core[o].ticket).unwrap_or(first) as u32/'
+wrong "waits names a later one in conflict" $commit \
+  's/core: first as u32/core: (c + 1..16).find(|\&o| self.core[o].ticket > self.core[c].ticket \&\& self.core[c].conflicts_with(\&self.core[o])).unwrap_or(first) as u32/'
+wrong "the listing names no core" script/listing.rs 's/("waits", Some(core))/("waits", None)/'
 wrong "value 0 always" $transaction 's/let value = .*/let value = 0;/'
 wrong "no card is moved" $commit '/committed\[object\] = /d'
 wrong "one setback is invented" $commit 's/Committed(ending.aborts)/Committed(ending.aborts + 1)/'

@@ -38,6 +38,11 @@ wrong "a version stays where the value is equal" $commit \
 wrong "the commits are told for the version" $transaction 's/let version = .*/let version = self.commits;/'
 wrong "a pending word stands elsewhere" record.rs 's/core \* self.objects as usize + object/object * self.cores as usize + core/'
 wrong "a transaction waits for itself" $commit 's/other.ticket < own.ticket/other.ticket <= own.ticket/'
+wrong "waits names the least core in the way" $commit 's/min_by_key(|&other| self.core\[other\].ticket)/min()/'
+wrong "waits names the greatest ticket in the way" $commit 's/min_by_key/max_by_key/'
+wrong "waits names the smallest ticket in progress" $commit \
+  's/core: first as u32/core: (0..16).filter(|\&o| self.core[o].in_progress).min_by_key(|\&o| self.core[o].ticket).unwrap_or(first) as u32/'
+wrong "waits names the smallest of tickets with a sign" $commit 's/|&other| self.core\[other\].ticket/& as i32/'
 wrong "longer committed values fit" $admit 's/committed.len() as u64 == /committed.len() as u64 >= /'
 wrong "longer pending values fit" $admit 's/pending.len() as u64 == /pending.len() as u64 >= /'
 wrong "the last ticket is not given" $admit 's/self.tickets == MAX_TICKETS/self.tickets >= MAX_TICKETS - 1/'

@@ -15,7 +15,7 @@ pub enum Answer {
     Value { value: u32, version: u32 },
     /// The pending word is stored.
     Written,
-    /// This core holds a conflicting transaction with a smaller ticket.
+    /// This core holds the conflicting transaction with the smallest ticket.
     Waits { core: u32 },
     /// The transaction has committed after this many aborts (setbacks).
     Committed(u32),

@@ -58,16 +58,26 @@ pub struct Contention {
     give_ups: u32,
     /// The objects that most reads and writes go to.
     hot: Vec<u32>,
+    /// How often a crowd begins, in a hundred calls.
+    crowds: u32,
+    /// The calls of a crowd that are still to be made, the last one first.
+    crowd: Vec<Call>,
     seats: Vec<Seat>,
 }
 
 impl Contention {
-    /// Chooses the machine and the shape of the run by the seed.
+    /// Chooses the machine and the shape of the run by the seed. One run in four
+    /// has crowds, on a machine of some cores more.
     pub fn new(seed: u64) -> Contention {
         let mut random = Random::new(seed);
         let most_cores = *random.pick(&[2, 4, 4, 8, 16]);
         let cores = 1 + random.below(most_cores);
         let objects = *random.pick(&[1, 1, 2, 2, 3, 4, 8, 64]);
+        if random.percent(25) {
+            let cores = 4 + random.below(13);
+            let shaped = Contention::shaped(random, cores, objects);
+            return Contention { even: false, crowds: 5, ..shaped };
+        }
         Contention::shaped(random, cores, objects)
     }
 
@@ -86,6 +96,14 @@ impl Contention {
         Contention { length, ..Contention::shaped(random, cores, objects) }
     }
 
+    /// Chooses a crowd by the seed, on this many cores: the run begins with it.
+    pub fn crowd(cores: u32, seed: u64) -> Contention {
+        let mut random = Random::new(seed);
+        let objects = *random.pick(&[1, 1, 2]);
+        let shaped = Contention::shaped(random, cores, objects);
+        Contention { even: false, crowds: 100, ..shaped }
+    }
+
     fn shaped(mut random: Random, cores: u32, objects: u32) -> Contention {
         let even = random.percent(30);
         Contention {
@@ -99,6 +117,8 @@ impl Contention {
             writes: *random.pick(&[20, 50, 90, 100]),
             give_ups: if even { 0 } else { *random.pick(&[0, 0, 5]) },
             hot: [0, 1, 31, 32, 62, 63].into_iter().filter(|&object| object < objects).collect(),
+            crowds: 0,
+            crowd: Vec::new(),
             seats: vec![Seat::default(); cores as usize],
             random,
         }
@@ -130,7 +150,11 @@ impl Contention {
 
     /// Makes the call of this number after the setup.
     pub fn step(&mut self, subject: &mut impl Subject, number: usize) -> (Call, Answer) {
-        let call = self.opening(number).unwrap_or_else(|| self.next_call());
+        if self.crowds > 0 && self.crowd.is_empty() && self.random.percent(self.crowds) {
+            self.crowd = self.next_crowd();
+        }
+        let planned = self.opening(number).or_else(|| self.crowd.pop());
+        let call = planned.unwrap_or_else(|| self.next_call());
         let answer = subject.call(call);
         self.hear(call, answer);
         (call, answer)
@@ -144,6 +168,28 @@ impl Contention {
             0 => self.release(core),
             _ => Call::Begin { core },
         })
+    }
+
+    /// The calls of a crowd, the last one first. All begin anew, in any order; up
+    /// to two of the earliest touch nothing, the others one of two objects at
+    /// most; the latest ask to commit first.
+    fn next_crowd(&mut self) -> Vec<Call> {
+        let order = self.random.shuffled(self.cores);
+        let mut calls = Vec::new();
+        for &core in &order {
+            let Seat { jobs, open, .. } = self.seats[core as usize];
+            calls.extend(open.then_some(Call::GiveUp { core }));
+            calls.extend((jobs == 0).then(|| self.release(core)));
+        }
+        calls.extend(order.iter().map(|&core| Call::Begin { core }));
+        let (asides, shared) = (self.random.place(3), 1 + self.random.place(2));
+        for &core in order.iter().skip(asides) {
+            let object = self.hot[self.random.place(shared.min(self.hot.len()))];
+            calls.push(self.touch(core, object));
+        }
+        calls.extend(order.iter().rev().map(|&core| Call::Commit { core }));
+        calls.reverse();
+        calls
     }
 
     fn next_call(&mut self) -> Call {
@@ -192,6 +238,10 @@ impl Contention {
         let any_object = self.random.below(self.objects);
         let hot_object = *self.random.pick(&self.hot);
         let object = if self.random.percent(80) { hot_object } else { any_object };
+        self.touch(core, object)
+    }
+
+    fn touch(&mut self, core: u32, object: u32) -> Call {
         if self.random.percent(self.writes) {
             Call::Write { core, object, value: self.word() }
         } else {

@@ -1,5 +1,5 @@
-//! Second implementation of the shared cards machine, written from document 01
-//! alone, and the checks that stand beside it.
+//! Second implementation of the shared cards machine, written from documents 01
+//! and 02 alone, and the checks that stand beside it.
 //!
 //! - the machine: `call`, `answer`, `refusal`, `set`, `record`, `sound`,
 //!   `calls`
@@ -7,7 +7,8 @@
 //! - whole runs judged from calls and answers: `checker`, `replay`,
 //!   `listed_runs`
 //! - single calls of a door compared with the machine's: `compared`
-//! - inputs by seed: `random`, `contended`, `scripts`, `choices`, `shrink`
+//! - inputs by seed: `random`, `contended`, `scripts`, `choices`, `shrink`;
+//!   what they show of waits: `waiting`
 //!
 //! The code says object for card, abort for setback and zombie for marked.
 
@@ -33,3 +34,4 @@ pub mod scripts;
 pub mod set;
 pub mod shrink;
 pub mod sound;
+pub mod waiting;

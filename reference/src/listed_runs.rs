@@ -1,6 +1,5 @@
 //! The runs that a script and its listing show, for the checker. A run starts
-//! after each accepted setup. A listing names no core for waits and no version
-//! for a value.
+//! after each accepted setup. A listing shows no version for a value.
 
 use crate::answer::Answer;
 use crate::call::Call;
@@ -99,7 +98,7 @@ fn answer(number: usize, line: &[u8]) -> Option<Answer> {
         "begun" => number().map(Answer::Begun),
         "value" => number().map(|value| Answer::Value { value, version: 0 }),
         "written" => dashed(Answer::Written),
-        "waits" => dashed(Answer::Waits { core: 0 }),
+        "waits" => number().map(|core| Answer::Waits { core }),
         "committed" => number().map(Answer::Committed),
         "setback" => dashed(Answer::SetBack),
         "ended" => dashed(Answer::Ended),

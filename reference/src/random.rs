@@ -35,6 +35,15 @@ impl Random {
         &items[self.place(items.len())]
     }
 
+    /// The numbers below the limit, in any order.
+    pub fn shuffled(&mut self, limit: u32) -> Vec<u32> {
+        let mut numbers: Vec<u32> = (0..limit).collect();
+        for end in (2..=numbers.len()).rev() {
+            numbers.swap(end - 1, self.place(end));
+        }
+        numbers
+    }
+
     /// True in so many of a hundred cases.
     pub fn percent(&mut self, share: u32) -> bool {
         self.below(100) < share

@@ -132,12 +132,21 @@ fn contended(random: &mut Random, most: u32) -> Vec<Call> {
 /// Few calls, so that a script that shows a fault has few lines to choose from.
 fn few_calls(random: &mut Random) -> Vec<Call> {
     let length = 1 + random.place(FEW_CALLS);
-    match random.below(6) {
+    match random.below(8) {
         0 => full_list(random, length),
         1 => struck_in_turn(random),
         2 => [small(random, length / 2), small(random, length / 2)].concat(),
+        3 | 4 => crowd(random),
         _ => small(random, length),
     }
+}
+
+/// A setup and a crowd on few cores, up to one of its commits: 9 to 26 lines
+/// with the names.
+fn crowd(random: &mut Random) -> Vec<Call> {
+    let cores = 2 + random.below(5);
+    let contention = Contention::crowd(cores, random.bits());
+    contended_run(contention, (3 * cores + 1 + random.below(cores)) as usize)
 }
 
 /// A setup and a contended run of so many calls on a small machine.

@@ -4,7 +4,7 @@ mod common;
 
 use cards_reference::answer::Answer;
 use cards_reference::machine::{dispatch, Machine};
-use common::{answers, call, machine};
+use common::{answers, call, machine, CROWD};
 
 fn say(machine: &mut Machine, line: &str) -> Answer {
     machine.call(call(line))
@@ -61,7 +61,7 @@ fn version_rises_also_when_the_value_is_equal() {
 }
 
 #[test]
-fn waits_names_a_conflicting_core_and_changes_nothing() {
+fn waits_changes_nothing() {
     let mut machine = machine(&READY);
     say(&mut machine, "read 1 0 -");
     say(&mut machine, "write 2 0 4");
@@ -71,6 +71,66 @@ fn waits_names_a_conflicting_core_and_changes_nothing() {
     assert_eq!(machine.committed(), [0, 0]);
     say(&mut machine, "giveup 1 - -");
     assert_eq!(say(&mut machine, "commit 2 - -"), Answer::Committed(0));
+}
+
+#[test]
+fn waits_names_the_core_with_the_smallest_conflicting_ticket() {
+    let mut machine = machine(&CROWD);
+    let before = machine.record;
+    // Core 0 reads what core 2 reads, and these two do not conflict.
+    for (core, first) in [(4, 2), (1, 2), (5, 2), (0, 5)] {
+        let answer = say(&mut machine, &format!("commit {core} - -"));
+        assert_eq!(answer, Answer::Waits { core: first }, "core {core}");
+    }
+    assert_eq!(machine.record, before);
+}
+
+#[test]
+fn whom_waits_names_is_the_next_when_the_first_has_ended() {
+    let mut machine = machine(&CROWD);
+    for first in [2, 5, 0] {
+        assert_eq!(say(&mut machine, "commit 4 - -"), Answer::Waits { core: first });
+        say(&mut machine, &format!("giveup {first} - -"));
+    }
+    assert_eq!(say(&mut machine, "commit 4 - -"), Answer::Committed(0));
+}
+
+#[test]
+fn a_zombie_is_not_named() {
+    let mut machine = machine(&CROWD);
+    say(&mut machine, "read 2 1 -");
+    assert_eq!(say(&mut machine, "commit 3 - -"), Answer::Committed(0));
+    assert!(machine.record.core[2].zombie);
+    assert_eq!(say(&mut machine, "commit 4 - -"), Answer::Waits { core: 5 });
+    say(&mut machine, "commit 2 - -");
+    say(&mut machine, "write 2 0 8");
+    assert_eq!(say(&mut machine, "commit 4 - -"), Answer::Waits { core: 2 });
+}
+
+#[test]
+fn waits_goes_by_tickets_and_not_by_the_time_of_the_touch() {
+    let mut machine = machine(&READY);
+    for line in ["write 2 0 4", "write 1 0 4", "write 0 0 4"] {
+        say(&mut machine, line);
+    }
+    assert_eq!(say(&mut machine, "commit 2 - -"), Answer::Waits { core: 0 });
+}
+
+#[test]
+fn the_listing_prints_the_core_in_the_value_column() {
+    let waits = |lines: &[&str]| answers(lines).pop();
+    assert_eq!(waits(&[&CROWD[..], &["commit 4 - -"]].concat()).as_deref(), Some("waits 2"));
+    let two_digits = [
+        "setup 16 1 -",
+        "release 15 1 1",
+        "release 3 1 1",
+        "begin 15 - -",
+        "begin 3 - -",
+        "read 15 0 -",
+        "write 3 0 1",
+        "commit 3 - -",
+    ];
+    assert_eq!(waits(&two_digits).as_deref(), Some("waits 15"));
 }
 
 #[test]

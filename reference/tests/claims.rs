@@ -11,7 +11,12 @@ use common::{call, NAMES};
 /// The run that these script lines and their listed answers show, after a
 /// setup of 3 cores and 3 objects. Jobs are left out; no claim speaks of them.
 fn listed(steps: &[(&str, &str)]) -> Run {
-    let mut script = format!("{NAMES}\nsetup 3 3 -\n");
+    listed_on(3, steps)
+}
+
+/// The same on a machine of so many cores.
+fn listed_on(cores: u32, steps: &[(&str, &str)]) -> Run {
+    let mut script = format!("{NAMES}\nsetup {cores} 3 -\n");
     let mut listing = "line answer value\n2 ready -\n".to_string();
     for (place, (line, answer)) in steps.iter().enumerate() {
         script += &format!("{line}\n");
@@ -175,7 +180,7 @@ fn a_struck_first_shows_in_three_claims() {
         ("begin 1 - -", "begun 1"),
         ("read 0 0 -", "value 0"),
         ("write 1 0 5", "written -"),
-        ("commit 1 - -", "waits -"),
+        ("commit 1 - -", "waits 0"),
     ];
     assert_eq!(broken(&report(&steps)), []);
     let expected = [
@@ -193,25 +198,98 @@ fn waits_for_earlier() {
         ("begin 1 - -", "begun 1"),
         ("read 0 0 -", "value 0"),
         ("read 1 0 -", "value 0"),
-        ("commit 1 - -", "waits -"),
+        ("commit 1 - -", "waits 0"),
     ];
-    let expected = [(4, Claim::WaitsForEarlier, Some(1))];
+    let expected = [(4, Claim::WaitsForEarlier, Some(1)), (4, Claim::NamedInConflict, Some(1))];
     assert_eq!(broken(&report(&readers)), expected);
     assert_eq!(broken(&report(&with(&readers, 4, "committed 0"))), []);
 
     let for_later = [
         ("begin 0 - -", "begun 0"),
         ("begin 1 - -", "begun 1"),
+        ("begin 2 - -", "begun 2"),
         ("write 0 0 1", "written -"),
         ("read 1 0 -", "value 0"),
-        ("commit 0 - -", "waits -"),
+        ("read 2 0 -", "value 0"),
+        ("commit 0 - -", "waits 2"),
     ];
-    let expected = [(4, Claim::WaitsForEarlier, Some(0))];
+    let expected = [(6, Claim::WaitsForEarlier, Some(0)), (6, Claim::NamedEarlier, Some(0))];
     assert_eq!(broken(&report(&for_later)), expected);
 }
 
+/// Cores 2, 5 and 0 are in the way of core 4. Core 3 was begun before them and
+/// touches another object, core 1 was begun last and is in conflict too; of the
+/// 7 cores, core 6 has no transaction.
+const CROWD: [(&str, &str); 13] = [
+    ("begin 3 - -", "begun 0"),
+    ("begin 2 - -", "begun 1"),
+    ("begin 5 - -", "begun 2"),
+    ("begin 0 - -", "begun 3"),
+    ("begin 4 - -", "begun 4"),
+    ("begin 1 - -", "begun 5"),
+    ("write 3 1 9", "written -"),
+    ("read 2 0 -", "value 0"),
+    ("write 5 0 9", "written -"),
+    ("read 0 0 -", "value 0"),
+    ("write 4 0 9", "written -"),
+    ("write 1 0 9", "written -"),
+    ("commit 4 - -", "waits 2"),
+];
+
+/// The claims that are broken if the last commit of the crowd, after these
+/// steps more, names this core.
+fn named(more: &[(&str, &str)], core: u32) -> Vec<Claim> {
+    let answer = format!("waits {core}");
+    let steps = [&CROWD[..12], more, &[("commit 4 - -", &answer)]].concat();
+    let report = check(&listed_on(7, &steps));
+    let last = |b: &cards_reference::checker::Broken| {
+        assert_eq!((b.call, b.transaction), (steps.len() - 1, Some(4)));
+        b.claim
+    };
+    report.broken.iter().map(last).collect()
+}
+
 #[test]
-fn waits_names_earlier() {
+fn named_by_waits_is_the_first() {
+    assert_eq!(broken(&check(&listed_on(7, &CROWD))), []);
+    assert_eq!(named(&[], 2), []);
+    for later in [5, 0] {
+        assert_eq!(named(&[], later), [Claim::NamedFirst], "core {later}");
+    }
+    let first_ended = [("giveup 2 - -", "ended -")];
+    assert_eq!(named(&first_ended, 5), []);
+    assert_eq!(named(&first_ended, 0), [Claim::NamedFirst]);
+}
+
+#[test]
+fn named_by_waits_is_in_progress() {
+    for core in [6, 7, 15, u32::MAX] {
+        assert_eq!(named(&[], core), [Claim::NamedInProgress], "core {core}");
+    }
+    let first_ended = [("giveup 2 - -", "ended -")];
+    assert_eq!(named(&first_ended, 2), [Claim::NamedInProgress]);
+}
+
+#[test]
+fn named_by_waits_was_begun_earlier() {
+    assert_eq!(named(&[], 1), [Claim::NamedEarlier, Claim::NamedFirst]);
+    let itself = [Claim::NamedEarlier, Claim::NamedInConflict, Claim::NamedFirst];
+    assert_eq!(named(&[], 4), itself);
+    let begun_anew =
+        [("giveup 2 - -", "ended -"), ("begin 2 - -", "begun 6"), ("write 2 0 7", "written -")];
+    assert_eq!(named(&begun_anew, 2), [Claim::NamedEarlier, Claim::NamedFirst]);
+}
+
+#[test]
+fn named_by_waits_is_in_conflict() {
+    assert_eq!(named(&[], 3), [Claim::NamedInConflict]);
+    let struck = [("read 2 1 -", "value 0"), ("commit 3 - -", "committed 0")];
+    assert_eq!(named(&struck, 2), [Claim::NamedInConflict]);
+    assert_eq!(named(&struck, 5), []);
+}
+
+#[test]
+fn named_by_waits_where_the_answers_show_everything() {
     let run = |core| {
         whole(&[
             ("begin 1 - -", Answer::Begun(0)),
@@ -220,19 +298,16 @@ fn waits_names_earlier() {
             ("write 1 0 1", Answer::Written),
             ("write 0 0 1", Answer::Written),
             ("write 2 0 1", Answer::Written),
-            ("commit 0 - -", Answer::Waits { core }),
+            ("commit 2 - -", Answer::Waits { core }),
         ])
     };
     assert_eq!(broken(&check(&run(1))), []);
-    for wrong in [0, 2, 3, 99] {
-        let expected = [(6, Claim::WaitsNamesEarlier, Some(1))];
-        assert_eq!(broken(&check(&run(wrong))), expected);
-    }
+    assert_eq!(broken(&check(&run(0))), [(6, Claim::NamedFirst, Some(2))]);
 }
 
 #[test]
 fn told_once() {
-    let untold = with(&TOGETHER, 6, "waits -");
+    let untold = with(&TOGETHER, 6, "waits 0");
     assert!(report(&untold).breaks(Claim::ToldOnce));
 
     let late = [&TOGETHER[..6], &[("read 1 2 -", "value 0")]].concat();
@@ -264,7 +339,7 @@ fn aborts_reported() {
 
 #[test]
 fn rounds_bound() {
-    let waits = ("commit 0 - -", "waits -");
+    let waits = ("commit 0 - -", "waits 0");
     let begun = ("begin 0 - -", "begun 0");
     let bound = (2, Claim::RoundsBound, Some(0));
     assert!(broken(&report(&[begun, waits, waits])).contains(&bound));
@@ -278,7 +353,7 @@ fn rounds_bound() {
 
 #[test]
 fn rounds_ask_only_the_group() {
-    let waits = ("commit 1 - -", "waits -");
+    let waits = ("commit 1 - -", "waits 0");
     let steps = [
         ("begin 0 - -", "begun 0"),
         ("begin 1 - -", "begun 1"),
@@ -290,7 +365,7 @@ fn rounds_ask_only_the_group() {
     let idle = [&steps[..], &[waits; 50]].concat();
     assert_eq!(broken(&report(&idle)), []);
     // Core 0 acts in each round; core 2 began later and need not act.
-    let busy = [waits, ("commit 0 - -", "waits -")].repeat(6);
+    let busy = [waits, ("commit 0 - -", "waits 1")].repeat(6);
     let rounds = report(&[&steps[..], &busy].concat());
     assert!(broken(&rounds).contains(&(14, Claim::RoundsBound, Some(1))));
 }
@@ -306,8 +381,8 @@ const TIGHT: [(&str, &str); 15] = [
     ("write 2 0 7", "written -"),
     ("commit 1 - -", "setback -"),
     ("write 1 0 6", "written -"),
-    ("commit 2 - -", "waits -"),
-    ("commit 2 - -", "waits -"),
+    ("commit 2 - -", "waits 1"),
+    ("commit 2 - -", "waits 1"),
     ("commit 1 - -", "committed 1"),
     ("commit 2 - -", "setback -"),
     ("write 2 0 8", "written -"),
@@ -320,7 +395,7 @@ fn the_bound_is_reached_and_kept() {
     assert_eq!(broken(&tight), []);
     let nearest = Nearest { rounds: 6, bound: 6 };
     assert_eq!(tight.nearest, Some(nearest));
-    let late = [&TIGHT[..14], &[("commit 2 - -", "waits -")], &TIGHT[14..]].concat();
+    let late = [&TIGHT[..14], &[("commit 2 - -", "waits 1")], &TIGHT[14..]].concat();
     assert!(broken(&report(&late)).contains(&(14, Claim::RoundsBound, Some(2))));
 }
 
@@ -343,6 +418,7 @@ fn an_attempt_starts_at_the_strike() {
         ("commit 1 - -", "committed 1"),
     ];
     assert_eq!(broken(&report(&steps)), []);
-    let waits = report(&with(&steps[..9], 8, "waits -"));
-    assert_eq!(broken(&waits), [(8, Claim::WaitsForEarlier, Some(2))]);
+    let waits = report(&with(&steps[..9], 8, "waits 1"));
+    let expected = [(8, Claim::WaitsForEarlier, Some(2)), (8, Claim::NamedInConflict, Some(2))];
+    assert_eq!(broken(&waits), expected);
 }

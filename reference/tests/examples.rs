@@ -1,4 +1,4 @@
-//! Examples A to L of document 01.
+//! Examples A to L of document 01, A with the line 10 of document 02, paper 1.
 
 mod common;
 
@@ -12,6 +12,12 @@ const CASE_A_LISTING: &[u8] = include_bytes!("data/case_a.listing");
 #[test]
 fn a_listing_byte_for_byte() {
     assert_eq!(listing_of(CASE_A), CASE_A_LISTING);
+}
+
+#[test]
+fn a_line_10_names_core_0() {
+    let listing = String::from_utf8(listing_of(CASE_A)).expect("text");
+    assert_eq!(listing.lines().nth(9), Some("10 waits 0"));
 }
 
 #[test]

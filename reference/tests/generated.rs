@@ -1,8 +1,11 @@
 //! The generators: the same seed gives the same bytes, everything they promise
 //! to make is made, and the reference's own runs break no claim.
 
+mod common;
+
 use cards_reference::answer::Answer;
-use cards_reference::checker::{check, Nearest};
+use cards_reference::call::Call;
+use cards_reference::checker::{check, Nearest, Run};
 use cards_reference::contended::Contention;
 use cards_reference::listed_runs::listed_runs;
 use cards_reference::machine::Machine;
@@ -10,6 +13,8 @@ use cards_reference::random::Random;
 use cards_reference::replay::first_difference;
 use cards_reference::script::{listed, listing_of, parse_names};
 use cards_reference::scripts::{names_line, orders, quick_script, script, LONGEST_ONE_IN};
+use cards_reference::waiting::Waiting;
+use common::{machine, CROWD};
 use std::collections::BTreeSet;
 
 #[test]
@@ -70,6 +75,104 @@ fn runs_have_every_answer_and_refusal() {
     }
     assert_eq!(seen.into_iter().collect::<Vec<_>>(), SEEN);
     assert!(most_aborts >= 5, "only {most_aborts} aborts");
+}
+
+/// How often commits wait, and with whom about.
+#[derive(Debug, Default)]
+struct Waits {
+    all: usize,
+    /// The first in the way is not on the least core of those in the way.
+    not_least: usize,
+    /// One that is even earlier is not in conflict.
+    bystander: usize,
+    /// The first is neither on the least nor on the greatest core, and one that
+    /// is even earlier is not in conflict.
+    between: usize,
+    /// And a later one is in conflict.
+    crowd: usize,
+    /// Runs or scripts in which that is met.
+    with_crowd: usize,
+}
+
+impl Waits {
+    fn add(&mut self, runs: &[Run]) {
+        let before = self.crowd;
+        for waiting in runs.iter().flat_map(waitings) {
+            self.all += 1;
+            self.not_least += usize::from(waiting.not_least);
+            self.bystander += usize::from(waiting.bystander);
+            let between = waiting.not_least && waiting.not_greatest;
+            self.between += usize::from(between && waiting.bystander);
+            self.crowd += usize::from(waiting.in_a_crowd());
+        }
+        self.with_crowd += usize::from(self.crowd > before);
+    }
+
+    /// Adds the runs of a script.
+    fn add_script(&mut self, script: &[u8]) {
+        let shown = listed_runs(script, &listing_of(script)).expect("a good listing");
+        self.add(&shown.into_iter().map(|shown| shown.run).collect::<Vec<_>>());
+    }
+}
+
+/// What stands around each commit of the run that waits.
+fn waitings(run: &Run) -> Vec<Waiting> {
+    let mut machine = Machine::blank();
+    machine.call(Call::Setup { cores: run.cores, objects: run.objects });
+    let mut waitings = Vec::new();
+    for &(call, _) in &run.steps {
+        let before = machine.record;
+        if let (Answer::Waits { .. }, Some(core)) = (machine.call(call), call.core()) {
+            waitings.push(Waiting::of(&before, core as usize).expect("somebody in the way"));
+        }
+    }
+    waitings
+}
+
+#[test]
+fn who_is_about_when_a_commit_waits() {
+    let record = machine(&CROWD).record;
+    let (bystander, follower) = (true, true);
+    let of_4 = Waiting { in_the_way: 3, not_least: true, not_greatest: true, bystander, follower };
+    let of_5 = Waiting { in_the_way: 1, not_least: false, not_greatest: false, ..of_4 };
+    assert_eq!(Waiting::of(&record, 4), Some(of_4));
+    assert_eq!(Waiting::of(&record, 1), Some(Waiting { in_the_way: 4, follower: false, ..of_4 }));
+    assert_eq!(Waiting::of(&record, 5), Some(of_5));
+    assert_eq!(Waiting::of(&record, 3), None);
+    let mut alone = record;
+    alone.core[3] = alone.core[3].without_transaction();
+    assert_eq!(Waiting::of(&alone, 4), Some(Waiting { bystander: false, ..of_4 }));
+    assert!(of_4.in_a_crowd() && !of_5.in_a_crowd());
+}
+
+#[test]
+fn contended_runs_wait_in_crowds() {
+    let mut waits = Waits::default();
+    for seed in 0..600 {
+        waits.add(&[Contention::new(seed).run(&mut Machine::blank(), 1_000)]);
+    }
+    println!("{waits:?}");
+    assert!(waits.all > 30_000, "{waits:?}");
+    assert!(waits.between * 20 > waits.all, "{waits:?}");
+    assert!(waits.crowd * 30 > waits.all, "{waits:?}");
+    assert!(waits.with_crowd > 100, "{waits:?}");
+}
+
+#[test]
+fn scripts_wait_in_crowds() {
+    let (mut quick, mut few, mut any) = (Waits::default(), Waits::default(), Waits::default());
+    for seed in 1..=10_000 {
+        let script = quick_script(seed);
+        quick.add_script(&script);
+        if lines_of(&script) < 20 {
+            few.add_script(&script);
+        }
+    }
+    (1..=300).for_each(|seed| any.add_script(&script(seed)));
+    println!("quick: {quick:?}\nof few lines: {few:?}\nof any length: {any:?}");
+    assert!(quick.between * 20 > quick.all && quick.with_crowd > 150, "{quick:?}");
+    assert!(few.not_least > 20 && few.bystander > 50, "{few:?}");
+    assert!(any.between * 40 > any.all && any.with_crowd > 15, "{any:?}");
 }
 
 #[test]

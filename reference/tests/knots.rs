@@ -104,6 +104,15 @@ fn buyer_waits_with_nobody_ahead() {
 }
 
 #[test]
+fn whoever_is_named_by_mistake_is_seen() {
+    caught(Knot::NamesLeastCore, &[Claim::NamedFirst]);
+    caught(Knot::NamesLast, &[Claim::NamedFirst]);
+    caught(Knot::NamesSmallestTicket, &[Claim::NamedInConflict]);
+    caught(Knot::NamesLater, &[Claim::NamedEarlier, Claim::NamedFirst]);
+    caught(Knot::NamesIdle, &[Claim::NamedInProgress]);
+}
+
+#[test]
 fn buyer_refuses_with_no_reason() {
     for knot in [Knot::RefusesAll, Knot::TicketsSpent] {
         for run in runs(knot) {
@@ -126,6 +135,11 @@ fn every_knot_shows_in_the_answers() {
         Knot::FirstOnly,
         Knot::InventsAborts,
         Knot::WaitsForNobody,
+        Knot::NamesLeastCore,
+        Knot::NamesLast,
+        Knot::NamesSmallestTicket,
+        Knot::NamesLater,
+        Knot::NamesIdle,
     ] {
         let differs = runs(knot).any(|run| first_difference(&run).is_some());
         assert!(differs, "{knot:?}");

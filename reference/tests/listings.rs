@@ -2,6 +2,7 @@
 
 mod common;
 
+use cards_reference::answer::Answer;
 use cards_reference::checker::{check, Claim};
 use cards_reference::listed_runs::{listed_runs, ListedRun};
 use common::NAMES;
@@ -35,6 +36,15 @@ fn after_a_refused_setup_only_refusals_fit() {
     assert!(check(&good[1].run).broken.is_empty());
     let bad = runs(&script, &["2 ready -", "3 refused 1", "4 begun 0"]).expect("runs");
     assert!(check(&bad[1].run).breaks(Claim::AnswerFits));
+}
+
+#[test]
+fn waits_shows_a_core() {
+    let script = ["setup 16 1 -", "commit 0 - -", "commit 1 - -"];
+    let shown = runs(&script, &["2 ready -", "3 waits 0", "4 waits 12"]).expect("runs");
+    let answers: Vec<Answer> = shown[0].run.steps.iter().map(|(_, answer)| *answer).collect();
+    assert_eq!(answers, [Answer::Waits { core: 0 }, Answer::Waits { core: 12 }]);
+    assert_eq!(fault(&script, &["2 ready -", "3 waits -"]), "line 3 is not listed");
 }
 
 #[test]

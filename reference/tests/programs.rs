@@ -77,7 +77,7 @@ fn compare_shows_the_shortest_script_of_a_wrong_answer() {
 
 #[test]
 fn compare_shrinks_a_wrong_wait_to_few_lines() {
-    let text = compare_edited("s/waits -/committed 0/");
+    let text = compare_edited("s/waits .*/committed 0/");
     // Names, setup, two jobs, two begins, two touches of a card, one commit.
     assert_eq!(text.lines().filter(|line| line.starts_with("  ")).count(), 9 + 9 + 9, "{text}");
     assert!(text.contains("\nfewest: every smaller choice was tried\n"), "{text}");
@@ -85,7 +85,7 @@ fn compare_shrinks_a_wrong_wait_to_few_lines() {
 
 /// A program that never waits, with no trials for the fewest lines.
 fn compare_briefly() -> String {
-    let command = "\"$0\" | sed 's/waits -/committed 0/'";
+    let command = "\"$0\" | sed 's/waits .*/committed 0/'";
     let arguments = ["--trials", "0", "--quick", "--count", "600", "sh", "-c", command, REFERENCE];
     let (status, text) = compare(&arguments);
     assert_eq!(status, Some(1));
@@ -96,7 +96,7 @@ fn compare_briefly() -> String {
 #[test]
 fn compare_takes_scripts_of_few_lines_first() {
     let text = compare_briefly();
-    let waits = |script: &[u8]| String::from_utf8_lossy(&listing_of(script)).contains(" waits -");
+    let waits = |script: &[u8]| String::from_utf8_lossy(&listing_of(script)).contains(" waits ");
     let scripts = (1..=600).map(|seed| (quick_script(seed), seed));
     let differ = scripts.filter(|(script, _)| waits(script));
     let first = differ.map(|(script, seed)| (count_lines(&script), seed)).min();
@@ -181,7 +181,7 @@ fn make_script_makes_so_many_lines() {
     assert!(script.stdout.starts_with(b"call core card value\nsetup 4 64 -\nrelease "));
     assert_eq!(text(&script).lines().count(), 500);
     let listing = text(&output(REFERENCE, &[], &script.stdout));
-    assert!(listing.contains(" waits -\n") && listing.contains(" setback -\n"), "{listing}");
+    assert!(listing.contains(" waits ") && listing.contains(" setback -\n"), "{listing}");
     assert_eq!(output(MAKE_SCRIPT, &["1", "17", "64", "500"], b"").status.code(), Some(2));
 }
 
@@ -204,6 +204,12 @@ fn check_run_judges_a_listing() {
     let shown = text(&bad);
     assert!(shown.contains("line 13: SerialReads broken for transaction 1\n"), "{shown}");
     assert!(shown.contains("line 13: not the rule's answer\n"), "{shown}");
+
+    let named = check_listing("named.listing", &right.replace("10 waits 0", "10 waits 1"));
+    assert_eq!(named.status.code(), Some(1));
+    let shown = text(&named);
+    assert!(shown.contains("line 10: NamedFirst broken for transaction 1\n"), "{shown}");
+    assert!(shown.contains("line 10: not the rule's answer\n"), "{shown}");
 
     let short = check_listing("short.listing", "line answer value\n2 ready -\n");
     assert_eq!(short.status.code(), Some(1));

@@ -7,8 +7,8 @@ use crate::set::{only, Set};
 
 impl Record {
     /// Set back for a zombie; waits if a conflicting transaction has a smaller
-    /// ticket, and nothing else changes; otherwise committed with the count of
-    /// aborts (setbacks).
+    /// ticket, with the core of the smallest, and nothing else changes; otherwise
+    /// committed with the count of aborts (setbacks).
     pub fn commit(mut self, core: u32, committed: &mut [u32], pending: &[u32]) -> (Answer, Record) {
         let c = match self.admit_commit(core, committed, pending) {
             Ok(c) => c,
@@ -17,8 +17,8 @@ impl Record {
         if self.core[c].zombie {
             return self.tell_set_back(c);
         }
-        if let Some(ahead) = self.earlier_in_conflict(c) {
-            return (Answer::Waits { core: ahead as u32 }, self);
+        if let Some(first) = self.first_in_the_way(c) {
+            return (Answer::Waits { core: first as u32 }, self);
         }
         let ending = self.core[c];
         self.core[c] = ending.without_transaction();
@@ -36,16 +36,19 @@ impl Record {
         Ok(c)
     }
 
-    /// The first core that holds a conflicting transaction with a smaller ticket.
-    fn earlier_in_conflict(&self, core: usize) -> Option<usize> {
-        (0..self.present().len()).find(|&other| self.is_ahead(core, other))
+    /// The core with the smallest conflicting ticket, if that is smaller than
+    /// this core's own.
+    fn first_in_the_way(&self, core: usize) -> Option<usize> {
+        self.in_the_way(core).min_by_key(|&other| self.core[other].ticket)
     }
 
-    /// Whether the other core holds a conflicting transaction with a smaller
-    /// ticket: any such core may be named by waits.
-    pub fn is_ahead(&self, core: usize, other: usize) -> bool {
-        let (own, other) = (&self.core[core], &self.core[other]);
-        other.in_progress && other.ticket < own.ticket && own.conflicts_with(other)
+    /// The cores that hold a conflicting transaction with a smaller ticket.
+    pub fn in_the_way(&self, core: usize) -> impl Iterator<Item = usize> + '_ {
+        let own = &self.core[core];
+        (0..self.present().len()).filter(|&place| {
+            let other = &self.core[place];
+            other.in_progress && other.ticket < own.ticket && own.conflicts_with(other)
+        })
     }
 
     /// The write set's pending values become committed; each written object's

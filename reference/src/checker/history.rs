@@ -10,10 +10,11 @@ pub enum Event {
     Wrote { object: usize, value: u32 },
     /// A call answered set back.
     Told,
-    /// A commit answered waits, and the earlier ones in conflict then.
-    Waited { named: Option<u32>, ahead: Vec<usize> },
-    /// A commit answered committed, and the earlier ones in conflict then.
-    Committed { aborts: u32, ahead: Vec<usize> },
+    /// A commit answered waits, the transaction in progress on the core named,
+    /// if there is one, and those in conflict then.
+    Waited { named: Option<usize>, in_conflict: Vec<usize> },
+    /// A commit answered committed, and those in conflict then.
+    Committed { aborts: u32, in_conflict: Vec<usize> },
     /// A give up answered ended.
     GaveUp,
     /// Struck by the commit of another.
@@ -30,7 +31,6 @@ pub struct Happening {
 /// A transaction from its begin on.
 #[derive(Clone, Debug)]
 pub struct Transaction {
-    pub core: u32,
     pub begin: usize,
     /// The k transactions in progress at its begin.
     pub contenders: Vec<usize>,

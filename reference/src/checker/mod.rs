@@ -1,10 +1,12 @@
-//! Judges a whole run by demands 2 and 3 of document 01, from its calls and
-//! answers alone: no record and no rule of the machine is looked at. Each
-//! claim has a file of its own over one history.
+//! Judges a whole run by demands 2 and 3 of document 01, and by what paper 1 of
+//! document 02 says of waits, from its calls and answers alone: no record and no
+//! rule of the machine is looked at. Each claim has a file of its own over one
+//! history.
 
 mod commits;
 mod fits;
 mod history;
+mod named;
 mod report;
 mod rounds;
 mod serial;
@@ -26,8 +28,8 @@ use tables::Tables;
 pub enum Detail {
     /// Everything.
     Whole,
-    /// What a listing shows: the core named by waits and the version that
-    /// comes with a value are unknown, and their numbers here say nothing.
+    /// What a listing shows: the version that comes with a value is unknown,
+    /// and its number here says nothing.
     Listed,
 }
 
@@ -54,6 +56,7 @@ pub fn check(run: &Run) -> Report {
     together::check(&history, &tables, &mut report);
     strikes::check(&history, &mut report);
     commits::check(&history, &mut report);
+    named::check(&history, &mut report);
     told::check(&history, &mut report);
     rounds::check(&history, &mut report);
     report.broken.sort_by_key(|broken| broken.call);

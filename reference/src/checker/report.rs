@@ -23,8 +23,15 @@ pub enum Claim {
     StruckByEarlier,
     /// Demand 3: waits only while an earlier one is in conflict.
     WaitsForEarlier,
-    /// Demand 3: the core named by waits holds one such.
-    WaitsNamesEarlier,
+    /// Demand 3: whom waits names is in progress.
+    NamedInProgress,
+    /// Demand 3: whom waits names was begun earlier.
+    NamedEarlier,
+    /// Demand 3: whom waits names is in conflict.
+    NamedInConflict,
+    /// Demand 3: of those in progress, begun earlier and in conflict none was
+    /// begun before the one named.
+    NamedFirst,
     /// Demand 3: committed only while no earlier one is in conflict.
     CommitsInTurn,
     /// Demand 3: set back is answered once after each strike, before anything

@@ -59,13 +59,7 @@ impl Walk<'_> {
         };
         *place = Some(self.history.transactions.len());
         let happenings = Vec::new();
-        self.history.transactions.push(Transaction {
-            core,
-            begin,
-            contenders,
-            happenings,
-            end: None,
-        });
+        self.history.transactions.push(Transaction { begin, contenders, happenings, end: None });
         self.touched.push(0);
         self.written.push(0);
         true
@@ -74,8 +68,8 @@ impl Walk<'_> {
     /// Takes in a call made for the transaction in progress on its core. None
     /// if there is none or the answer does not fit.
     fn act(&mut self, number: usize, call: Call, answer: Answer) -> Option<()> {
-        let core = call.core()? as usize;
-        let own = (*self.open.get(core)?)?;
+        let core = call.core()?;
+        let own = self.on(core)?;
         let event = self.event(own, call, answer)?;
         match event {
             Event::Read { object, .. } => self.touched[own] |= only(object),
@@ -100,7 +94,7 @@ impl Walk<'_> {
     fn event(&self, own: usize, call: Call, answer: Answer) -> Option<Event> {
         Some(match (call, answer) {
             (Call::Read { object, .. }, Answer::Value { value, version }) => {
-                Event::Read { object: self.object(object)?, value, version: self.shown(version) }
+                Event::Read { object: self.object(object)?, value, version: self.version(version) }
             }
             (Call::Write { object, value, .. }, Answer::Written) => {
                 Event::Wrote { object: self.object(object)?, value }
@@ -109,10 +103,10 @@ impl Walk<'_> {
                 Event::Told
             }
             (Call::Commit { .. }, Answer::Waits { core }) => {
-                Event::Waited { named: self.shown(core), ahead: self.ahead_in_conflict(own) }
+                Event::Waited { named: self.on(core), in_conflict: self.in_conflict(own) }
             }
             (Call::Commit { .. }, Answer::Committed(aborts)) => {
-                Event::Committed { aborts, ahead: self.ahead_in_conflict(own) }
+                Event::Committed { aborts, in_conflict: self.in_conflict(own) }
             }
             (Call::GiveUp { .. }, Answer::Ended) => Event::GaveUp,
             _ => return None,
@@ -124,18 +118,18 @@ impl Walk<'_> {
         (object < self.run.objects).then_some(object as usize)
     }
 
-    /// A number that a listing does not show.
-    fn shown(&self, number: u32) -> Option<u32> {
-        (self.run.detail == Detail::Whole).then_some(number)
+    /// A version, which a listing does not show.
+    fn version(&self, version: u32) -> Option<u32> {
+        (self.run.detail == Detail::Whole).then_some(version)
     }
 
     fn happen(&mut self, call: usize, own: usize, event: Event) {
         self.history.transactions[own].happenings.push(Happening { call, event });
     }
 
-    fn end(&mut self, number: usize, core: usize, own: usize) {
+    fn end(&mut self, number: usize, core: u32, own: usize) {
         self.history.transactions[own].end = Some(number);
-        self.open[core] = None;
+        self.open[core as usize] = None;
     }
 
     /// A commit strikes every other transaction in progress that has touched
@@ -150,16 +144,21 @@ impl Walk<'_> {
         }
     }
 
-    /// The earlier transactions in progress that conflict with this one: one
-    /// has written an object that the other has touched.
-    fn ahead_in_conflict(&self, own: usize) -> Vec<usize> {
+    /// The other transactions in progress that conflict with this one: one has
+    /// written an object that the other has touched.
+    fn in_conflict(&self, own: usize) -> Vec<usize> {
         let conflict = |&other: &usize| {
             self.written[own] & self.touched[other] != 0
                 || self.written[other] & self.touched[own] != 0
         };
-        let mut ahead = self.in_progress();
-        ahead.retain(|other| *other < own && conflict(other));
-        ahead
+        let mut others = self.in_progress();
+        others.retain(|other| *other != own && conflict(other));
+        others
+    }
+
+    /// The transaction in progress on a core.
+    fn on(&self, core: u32) -> Option<usize> {
+        *self.open.get(core as usize)?
     }
 
     fn in_progress(&self) -> Vec<usize> {

@@ -36,11 +36,16 @@ fn beside(random: &mut Random, number: u32, limits: &[u32], most: u32) -> u32 {
 
 fn change_counts(record: &mut Record, random: &mut Random) {
     let Record { cores, objects, tickets, commits, give_ups, .. } = *record;
-    match random.below(5) {
+    match random.below(6) {
         0 => record.cores = beside(random, cores, &[0, 1, 15, 16, 17, 255], 255),
         1 => record.objects = beside(random, objects, &[0, 1, 63, 64, 65, 255], 255),
         2 => record.tickets = beside(random, tickets, &[0, commits, u32::MAX], u32::MAX),
         3 => record.commits = beside(random, commits, &[0, tickets, u32::MAX], u32::MAX),
+        4 => {
+            // Mostly their sum grows by 2^32.
+            record.commits = commits.wrapping_add(1 << 31);
+            record.give_ups = give_ups.wrapping_add(1 << 31);
+        }
         _ => record.give_ups = beside(random, give_ups, &[0, tickets, u32::MAX], u32::MAX),
     }
 }

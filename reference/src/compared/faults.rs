@@ -119,6 +119,7 @@ fn fault(name: &str, alter: impl Fn(&mut Left) + 'static) -> Fault {
 pub fn faults() -> Vec<Fault> {
     let all = [
         answers(),
+        named(),
         refusals(),
         orders(),
         fields(),
@@ -136,6 +137,8 @@ fn answers() -> Vec<Fault> {
         ("another value is read", VALUE, 0),
         ("another version is told", VALUE, 1),
         ("another ticket is told", BEGUN, 0),
+        ("another core is named", WAITS, 0),
+        ("waits has a second value", WAITS, 1),
         ("other aborts are told", COMMITTED, 0),
         ("another job is told", FINISHED, 0),
     ];
@@ -146,11 +149,6 @@ fn answers() -> Vec<Fault> {
         ("set back for written", WRITTEN, SET_BACK),
         ("committed for waits", WAITS, COMMITTED),
         ("finished for ended", ENDED, FINISHED),
-    ];
-    let names = [
-        ("waits names its own core", fault_own as fn(&Left) -> u32),
-        ("waits names a core out of range", |left| left.given.cores),
-        ("waits names a later one or none", fault_later),
     ];
     let mut faults = Vec::new();
     for (name, kind, place) in values {
@@ -167,26 +165,65 @@ fn answers() -> Vec<Fault> {
             }
         }));
     }
-    for (name, named) in names {
-        faults.push(fault(name, move |left| {
-            if left.kind == WAITS {
-                let core = named(left);
-                left.says(WAITS, core);
-            }
-        }));
-    }
     faults
 }
 
-fn fault_own(left: &Left) -> u32 {
-    left.call.core().unwrap_or(0)
+/// Whom a wrong door names: a core, by the record and the core that waits.
+type Names = fn(&Record, usize) -> Option<usize>;
+
+/// Waits with another core than that of the smallest conflicting ticket.
+fn named() -> Vec<Fault> {
+    let names: [(&str, Names); 13] = [
+        ("its own core", |_, own| Some(own)),
+        ("a core out of range", |r, _| Some(r.cores as usize)),
+        ("a core without a transaction", |r, _| r.core.iter().position(|core| !core.in_progress)),
+        ("the least core in the way", |r, own| r.in_the_way(own).min()),
+        ("the greatest core in the way", |r, own| r.in_the_way(own).max()),
+        ("the greatest ticket in the way", |r, own| {
+            r.in_the_way(own).max_by_key(|&other| r.core[other].ticket)
+        }),
+        ("the least core in conflict", |r, own| in_conflict(r, own).min()),
+        ("the greatest ticket in conflict", |r, own| {
+            in_conflict(r, own).max_by_key(|&other| r.core[other].ticket)
+        }),
+        ("one that does not conflict", |r, own| {
+            others(r, own).find(|&other| !r.core[own].conflicts_with(&r.core[other]))
+        }),
+        ("a later one", |r, own| {
+            others(r, own).find(|&other| r.core[other].ticket > r.core[own].ticket)
+        }),
+        ("the smallest ticket in progress", |r, own| {
+            others(r, own).min_by_key(|&other| r.core[other].ticket)
+        }),
+        ("the smallest of tickets with a sign", |r, own| {
+            r.in_the_way(own).min_by_key(|&other| r.core[other].ticket as i32)
+        }),
+        ("the smallest lower half of a ticket", |r, own| {
+            r.in_the_way(own).min_by_key(|&other| r.core[other].ticket as u16)
+        }),
+    ];
+    let named = |(name, names): (&str, Names)| {
+        fault(&format!("waits names {name}"), move |left| {
+            if let (WAITS, Call::Commit { core: own }) = (left.kind, left.call) {
+                if let Some(core) = names(left.given, own as usize) {
+                    left.says(WAITS, core as u32);
+                }
+            }
+        })
+    };
+    names.into_iter().map(named).collect()
 }
 
-/// A core that does not hold the caller back, though it may be in progress.
-fn fault_later(left: &Left) -> u32 {
-    let own = fault_own(left) as usize;
-    let later = |other: &u32| !left.given.is_ahead(own, *other as usize);
-    (0..left.given.cores).rev().find(later).unwrap_or(0)
+/// The other cores with a transaction in progress.
+fn others(record: &Record, own: usize) -> impl Iterator<Item = usize> + '_ {
+    let open = move |&other: &usize| other != own && record.core[other].in_progress;
+    (0..record.present().len()).filter(open)
+}
+
+/// Those of them in conflict, earlier or later.
+fn in_conflict(record: &Record, own: usize) -> impl Iterator<Item = usize> + '_ {
+    let conflict = move |&other: &usize| record.core[own].conflicts_with(&record.core[other]);
+    others(record, own).filter(conflict)
 }
 
 /// A refused call that says another number or changes something.

@@ -74,7 +74,7 @@ impl<D: Door> Judge<D> {
         let (answer, after) = dispatch(given, call, &mut world.committed, &mut world.pending);
         world.record = after;
         let told = self.lent.told(kind);
-        if let Some(what) = self.differences(&given, call, told, answer, world) {
+        if let Some(what) = self.differences(told, answer.into(), world) {
             return Err(Difference { part, given: Box::new(given), call, lengths, what });
         }
         self.tally.count(part, &given, call, answer, lengths);
@@ -82,16 +82,9 @@ impl<D: Door> Judge<D> {
     }
 
     /// What the door left otherwise than the reference.
-    fn differences(
-        &self,
-        given: &Record,
-        call: Call,
-        told: Told,
-        answer: Answer,
-        after: &World,
-    ) -> Option<Vec<String>> {
+    fn differences(&self, told: Told, answer: Told, after: &World) -> Option<Vec<String>> {
         let right = spell(&after.record);
-        let alike = answers(given, call, told, answer)
+        let alike = told == answer
             && self.lent.record.words()[..RECORD_WORDS] == right
             && self.lent.committed.words() == after.committed
             && self.lent.pending.words() == after.pending
@@ -100,8 +93,8 @@ impl<D: Door> Judge<D> {
             return None;
         }
         let mut what = Vec::new();
-        if !answers(given, call, told, answer) {
-            what.push(format!("answer: {told:?}, the reference's {:?}", Told::from(answer)));
+        if told != answer {
+            what.push(format!("answer: {told:?}, the reference's {answer:?}"));
         }
         let words = &self.lent.record.words()[..RECORD_WORDS];
         what.extend(unlike(words, &right, name_of));
@@ -122,21 +115,6 @@ impl<D: Door> Judge<D> {
     fn fences(&self) -> [(&'static str, &Fenced); 3] {
         let Lent { record, committed, pending } = &self.lent;
         [("record", record), ("committed values", committed), ("pending values", pending)]
-    }
-}
-
-/// Whether what the door told is the answer. Of the core that waits names only
-/// this is asked: it holds a conflicting transaction with a smaller ticket.
-fn answers(given: &Record, call: Call, told: Told, answer: Answer) -> bool {
-    match (answer, call) {
-        (Answer::Waits { .. }, Call::Commit { core }) => {
-            let [named, rest] = told.values;
-            told.kind == Told::from(answer).kind
-                && rest == 0
-                && named < given.cores
-                && given.is_ahead(core as usize, named as usize)
-        }
-        _ => told == answer.into(),
     }
 }
 

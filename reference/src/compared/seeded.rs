@@ -4,6 +4,7 @@
 
 use super::border::near;
 use super::broken::{broken, WAYS};
+use super::crowd::crowd;
 use super::judge::{Difference, Door, Judge, World};
 use super::limits::near_limits;
 use super::words::call_of;
@@ -91,13 +92,14 @@ fn side_step<D: Door>(
     world: &World,
     random: &mut Random,
 ) -> Result<(), Difference> {
-    match random.below(12) {
+    match random.below(13) {
         0 => wrong_tables(judge, world, random),
         1 | 2 => break_alone(judge, world, random),
         3 => refused_setups(judge, world, random),
         4 => odd_numbers(judge, world, random),
         5 => fill_list(judge, world, random),
         6 => go_to_limits(judge, world, random),
+        7 => commit_in_a_crowd(judge, world, random),
         _ => go_near(judge, world, random),
     }
 }
@@ -250,6 +252,21 @@ fn go_to_limits<D: Door>(
         let number = *random.pick(&[1, 2, 2, 3, 4, 5, 5, 6, 7]);
         let call = fitting_call(number, &lent.record, random);
         judge.call("near the limits", &mut lent, call)?;
+    }
+    Ok(())
+}
+
+/// Each core asks to commit in a crowd.
+fn commit_in_a_crowd<D: Door>(
+    judge: &mut Judge<D>,
+    world: &World,
+    random: &mut Random,
+) -> Result<(), Difference> {
+    let record = crowd(&world.record, random);
+    assert!(sound(&record), "a crowd is sound");
+    for core in 0..record.cores {
+        let mut lent = World { record, ..world.clone() };
+        judge.call("in a crowd", &mut lent, Call::Commit { core })?;
     }
     Ok(())
 }

@@ -8,6 +8,7 @@ use crate::call::Call;
 use crate::record::{Record, MAX_OBJECTS, MAX_TICKETS};
 use crate::refusal;
 use crate::set::only;
+use crate::waiting::Waiting;
 use std::collections::BTreeMap;
 
 /// The refusals that each call may give, in the order of the calls.
@@ -54,7 +55,12 @@ pub const MISFITS: [&str; 6] = [
 ];
 
 /// What else must be met.
-const SEVERAL_AHEAD: &str = "waits with more than one core to name";
+const SEVERAL: &str = "waits with several in the way";
+const NOT_LEAST: &str = "waits, the first in the way not on the least core";
+const NOT_GREATEST: &str = "waits, the first in the way not on the greatest core";
+const BYSTANDER: &str = "waits, an even earlier one not in conflict";
+const FOLLOWER: &str = "waits, a later one in conflict";
+const CROWD: &str = "waits, all of that at once";
 const PENDING_READ: &str = "a pending value read";
 const AFTER_ABORT: &str = "committed after a setback";
 const MOST_ABORTS: &str = "committed after as many setbacks as there can be";
@@ -71,8 +77,13 @@ const NO_CORE_NO_OBJECT: &str = "refused 4 with no such card";
 const NO_OBJECT_IDLE: &str = "refused 5 with none in progress";
 const NO_JOB_SPENT: &str = "refused 7 with every ticket given";
 const OPEN_SPENT: &str = "refused 8 with every ticket given";
-const SIGHTS: [&str; 17] = [
-    SEVERAL_AHEAD,
+const SIGHTS: [&str; 22] = [
+    SEVERAL,
+    NOT_LEAST,
+    NOT_GREATEST,
+    BYSTANDER,
+    FOLLOWER,
+    CROWD,
     PENDING_READ,
     AFTER_ABORT,
     MOST_ABORTS,
@@ -176,8 +187,9 @@ impl Tally {
     fn see_commit(&mut self, given: &Record, core: usize, answer: Answer) {
         match answer {
             Answer::Waits { .. } => {
-                let ahead = |other: &usize| given.is_ahead(core, *other);
-                self.see(SEVERAL_AHEAD, (0..given.present().len()).filter(ahead).count() > 1);
+                if let Some(waiting) = Waiting::of(given, core) {
+                    self.see_waiting(waiting);
+                }
             }
             Answer::Committed(aborts) => {
                 let written = given.core[core].write_set;
@@ -189,6 +201,15 @@ impl Tally {
             }
             _ => {}
         }
+    }
+
+    fn see_waiting(&mut self, waiting: Waiting) {
+        self.see(SEVERAL, waiting.in_the_way > 1);
+        self.see(NOT_LEAST, waiting.not_least);
+        self.see(NOT_GREATEST, waiting.not_greatest);
+        self.see(BYSTANDER, waiting.bystander);
+        self.see(FOLLOWER, waiting.follower);
+        self.see(CROWD, waiting.in_a_crowd());
     }
 
     /// Counts a call that was refused for its tables, by what was wrong, if only

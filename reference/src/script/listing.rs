@@ -16,7 +16,7 @@ pub fn listed(answer: Answer) -> (&'static str, Option<u32>) {
         Answer::Begun(ticket) => ("begun", Some(ticket)),
         Answer::Value { value, .. } => ("value", Some(value)),
         Answer::Written => ("written", None),
-        Answer::Waits { .. } => ("waits", None),
+        Answer::Waits { core } => ("waits", Some(core)),
         Answer::Committed(aborts) => ("committed", Some(aborts)),
         Answer::SetBack => ("setback", None),
         Answer::Ended => ("ended", None),

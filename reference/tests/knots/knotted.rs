@@ -36,6 +36,16 @@ pub enum Knot {
     InventsAborts,
     /// The first commit of each transaction waits, with nobody ahead.
     WaitsForNobody,
+    /// Waits names the least core of those in the way,
+    NamesLeastCore,
+    /// or the one begun last of them,
+    NamesLast,
+    /// or the one begun first of all in progress,
+    NamesSmallestTicket,
+    /// or a later one in conflict,
+    NamesLater,
+    /// or a core with no transaction.
+    NamesIdle,
     /// Every borrower is refused.
     RefusesAll,
     /// Tickets are said to be spent.
@@ -126,7 +136,29 @@ impl Knotted {
         self.asked[core] = matches!(answer, Answer::Waits { .. });
         match (self.knot, answer) {
             (Knot::InventsAborts, Answer::Committed(aborts)) => Answer::Committed(aborts + 1),
+            (_, Answer::Waits { core: first }) => {
+                let wrong = self.wrongly_named(&before, core);
+                Answer::Waits { core: wrong.map_or(first, |wrong| wrong as u32) }
+            }
             _ => answer,
+        }
+    }
+
+    /// Whom the knot names for this core, if the record has such a one.
+    fn wrongly_named(&self, record: &Record, core: usize) -> Option<usize> {
+        let own = &record.core[core];
+        let ticket = |&other: &usize| record.core[other].ticket;
+        let mut in_the_way = record.in_the_way(core);
+        let mut open = (0..MAX_CORES).filter(|&other| record.core[other].in_progress);
+        match self.knot {
+            Knot::NamesLeastCore => in_the_way.next(),
+            Knot::NamesLast => in_the_way.max_by_key(ticket),
+            Knot::NamesSmallestTicket => open.min_by_key(ticket),
+            Knot::NamesLater => open.find(|&other| {
+                ticket(&other) > own.ticket && own.conflicts_with(&record.core[other])
+            }),
+            Knot::NamesIdle => record.core.iter().position(|core| !core.in_progress),
+            _ => None,
         }
     }
 
