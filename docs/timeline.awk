@@ -32,13 +32,16 @@ function told(call, card, value, answer, got) {
     if (answer == "begun") return "begin: ticket " got
     if (answer == "value") return "read card " card ": " got
     if (answer == "written") return "write card " card ": " value
-    if (answer == "waits") return "commit: WAITS"
+    if (answer == "waits") return "commit: WAITS behind core " got
     if (answer == "setback") return asked(call, card, value) ": SET BACK"
     if (answer == "committed") return "COMMITS (set back " got "x)"
     if (answer == "ended") return "GIVES UP"
     if (answer == "finished") return "finish: job " got
     return asked(call, card, value) ": " answer
 }
+
+# Whether a core may be told to wait behind another: one of the machine's that has a transaction in progress.
+function behind(core, other) { return other ~ /^(0|[1-9][0-9]*)$/ && other + 0 < size[stretches] && other + 0 != core + 0 && busy[other + 0] }
 
 # A new stretch, with so many cores: 0 is no machine.
 function stretch(cores,    c) {
@@ -121,7 +124,8 @@ answer[FNR] == "refused" && value[FNR] == 11 {
 {
     call = $place["call"]
     core = $place["core"]
-    if (!(call in answers) || NF != 4 || answer[FNR] != "refused" && !index(answers[call], " " answer[FNR] " "))
+    if (!(call in answers) || NF != 4 || answer[FNR] != "refused" && !index(answers[call], " " answer[FNR] " ") ||
+        answer[FNR] == "waits" && !behind(core, value[FNR]))
         bad("line " FNR " of the script cannot have been answered '" answer[FNR] " " value[FNR] "'")
 }
 call == "setup" {
@@ -139,6 +143,7 @@ call == "setup" {
     if (size[stretches] && core + 0 < size[stretches]) event(FNR, core + 0, kind, text)
     else if (answer[FNR] == "refused") event(FNR, "none", kind, "core " core ": " text)
     else bad("line " FNR " of the script is for a core that the machine lacks, and is answered '" answer[FNR] "'")
+    if (kind == "waits") waits_behind[events] = value[FNR] + 0
     if (kind == "begun") busy[core + 0] = 1
     if (kind == "committed" || kind == "ended") busy[core + 0] = 0
 }
@@ -226,6 +231,12 @@ function diamond(x, y) { return "M" x - 6 " " y "L" x " " y - 6 "L" x + 6 " " y 
 
 function across(x, y, half) { return "M" x - half " " y "H" x + half }
 
+# A line from who waits to the core that is first in the way, with its head there.
+function pointer(from, to, y,    back) {
+    back = from < to ? -7 : 7
+    return draw("M" from " " y "H" to + back, "dash") draw("M" to " " y "L" to + back " " y - 4 "V" y + 4 "Z", "solid")
+}
+
 # The shape of a kind of mark.
 function shape(kind, x, y) {
     if (kind == "release") return draw(diamond(x, y))
@@ -236,6 +247,7 @@ function shape(kind, x, y) {
     if (kind == "waits")
         return draw("M" x - 8 " " y - 8 "H" x + 8 "V" y + 8 "H" x - 8 "Z") \
                draw("M" x - 3 " " y - 5 "V" y + 5 "M" x + 3 " " y - 5 "V" y + 5, "thick")
+    if (kind == "first") return pointer(x + 9, x - 9, y)
     if (kind == "setback") return draw("M" x " " y - 9 "L" x + 9 " " y + 7 "H" x - 9 "Z")
     if (kind == "committed") return disc(x, y, 9, "solid") draw("M" x - 5 " " y "L" x - 1 " " y + 4 "L" x + 5 " " y - 4, "tick")
     if (kind == "ended") return draw("M" x - 7 " " y - 7 "L" x + 7 " " y + 7 "M" x - 7 " " y + 7 "L" x + 7 " " y - 7, "thick")
@@ -282,6 +294,10 @@ function picture_of(s,    e, c, x, n, left, from) {
         for (c = 0; c < size[s]; c++) {
             x = left[c] + 10
             if (marked(e, c)) put_over(shape(mark[e], x, y) words(x + 20, y, said[e], mark[e] ~ /^(waits|setback|committed)$/))
+            if (at_core[e] == c && mark[e] == "waits") {
+                n = waits_behind[e]
+                put_over(n < c ? pointer(x - 8, left[n] + 15, y) : pointer(x + 24 + int(7.3 * length(said[e])), left[n] + 5, y))
+            }
             if (at_core[e] == c && mark[e] == "begun") from[c] = y
             if (ending(e, c)) put_under(bar(x, from[c], y) "\n")
             else if (e == last[s] && (going[e, c] || at_core[e] == c && mark[e] == "begun")) put_under(bar(x, from[c], y + 10) "\n")
@@ -293,9 +309,10 @@ function picture_of(s,    e, c, x, n, left, from) {
 
 # The kinds of mark that occur, with their names.
 function legend(    n, i, x, kind, name, entries) {
-    n = split("bar in progress|begun begin|value read|written write|waits waits|setback set back|committed commits|ended gives up|" \
-              "ends ends with its machine|release release|finished finish|refused refused", entries, "|")
+    n = split("bar in progress|begun begin|value read|written write|waits waits|first first in the way|setback set back|" \
+              "committed commits|ended gives up|ends ends with its machine|release release|finished finish|refused refused", entries, "|")
     if ("begun" in kinds) kinds["bar"] = 1
+    if ("waits" in kinds) kinds["first"] = 1
     rule[++rules] = y - 18
     x = 20
     for (i = 1; i <= n; i++) {
@@ -325,6 +342,7 @@ function picture(    s, i) {
     print "text { font-family: monospace; font-size: 12px; fill: black; stroke: none } .b { font-weight: bold }"
     print "path, circle, rect { fill: white; stroke: black; stroke-width: 1.5 } .solid { fill: black } .bar { fill: #ddd }"
     print ".thick { fill: none; stroke-width: 3 } .tick { fill: none; stroke: white; stroke-width: 2 } .page { stroke: none }"
+    print ".dash { fill: none; stroke-dasharray: 4 3 }"
     print "</style>"
     print "<rect width=\"" width "\" height=\"" y "\" class=\"page\"/>"
     print words(10, 18, title "; time runs downwards")

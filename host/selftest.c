@@ -15,7 +15,7 @@ static const char case_a[] = "call core card value\nsetup 2 2 -\nrelease 0 7 100
                              "read 1 0 -\nwrite 0 0 30\nwrite 1 1 4\ncommit 1 - -\ncommit 0 - -\ncommit 1 - -\nread 1 0 -\n"
                              "commit 1 - -\n";
 static const char listing_a[] = "line answer value\n2 ready -\n3 running -\n4 running -\n5 begun 0\n6 begun 1\n7 value 0\n"
-                                "8 written -\n9 written -\n10 waits -\n11 committed 0\n12 setback -\n13 value 30\n"
+                                "8 written -\n9 written -\n10 waits 0\n11 committed 0\n12 setback -\n13 value 30\n"
                                 "14 committed 1\n";
 // A line of every call on the largest machine, and a line that is none.
 static const char all_calls[] = "call core card value\nsetup 16 64 -\nrelease 15 65535 4294967295\nbegin 15 - -\nread 15 63 -\n"

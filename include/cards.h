@@ -37,9 +37,9 @@ extern "C" {
 
 /* The version of this header and its archive. The first number rises when a caller has to change something, the second when something
  * is added. */
-#define CARDS_VERSION_MAJOR 1
+#define CARDS_VERSION_MAJOR 2
 #define CARDS_VERSION_MINOR 0
-#define CARDS_VERSION "1.0"
+#define CARDS_VERSION "2.0"
 
 /* An output of so many bytes is always enough for a script of so many lines, whatever is in them: 18 bytes of heading, and 29 for each
  * line. That is proved. (The longest line that the test of host/ finds has 25, "1000000 value 4294967295\n".)
@@ -94,7 +94,7 @@ extern "C" {
  *
  * Cost. The time grows with the script's length; nothing is waited for. Into an output that is CARDS_OUTPUT_ENOUGH for its lines the script
  * is run once; for a smaller one it is run to find the length of its listing and, if that fits, a second time to write it. As counted with
- * this toolchain, a run costs about 23,000 instructions at the least and, for a contended script, 860 a line on 4 cores and 875 on 16
+ * this toolchain, a run costs about 23,000 instructions at the least and, for a contended script, 850 a line on 4 cores and 871 on 16
  * (docs/BENCHMARKS.md). The dearest lines that were tried: setup of 16 cores and 64 cards 5,800, a commit of 64 cards that sets back 15
  * others 3,200, a refused setup 1,700; a byte of a line of more than 64 bytes about 10. */
 size_t cards_run(const uint8_t *script, size_t script_length, uint8_t *output, size_t output_length);

@@ -19,7 +19,7 @@ true_to() {
     match($0, /ticket [0-9]+/) { said = "begun " substr($0, RSTART + 7, RLENGTH - 7) }
     match($0, /read card [0-9]+: [0-9]+/) { said = substr($0, RSTART, RLENGTH); sub(/.*: /, "value ", said) }
     /write card [0-9]+: [0-9]+/ { said = "written -" }
-    / WAITS/ { said = "waits -" }
+    match($0, / WAITS behind core [0-9]+/) { said = "waits " substr($0, RSTART + 19, RLENGTH - 19) }
     / SET BACK/ { said = "setback -" }
     match($0, /COMMITS \(set back [0-9]+/) { said = "committed " substr($0, RSTART + 18, RLENGTH - 18) }
     / GIVES UP/ { said = "ended -" }
@@ -64,9 +64,37 @@ drawn() {
   grep -q '<title>' "$work/svg" && grep -q 'viewBox="0 0 ' "$work/svg" || return 1
   ! grep -qE 'href|url\(|@import|@font-face' "$work/svg" || return 1
   local word
-  for word in WAITS 'SET BACK' COMMITS 'GIVES UP' ENDS REFUSED; do
+  for word in 'WAITS behind core [0-9]*' 'SET BACK' COMMITS 'GIVES UP' ENDS REFUSED; do
     [ "$(text "$1.script" "$1.listing" | grep -o "$word" | wc -l)" -eq "$(grep -o "$word" "$work/svg" | wc -l)" ] || return 1
   done
+}
+
+# pointed EXAMPLE: in its picture a line leads from each commit that waits to the bar of the core that it names, 10 units wide and 5 right of
+# the core's heading; the legend has one more
+pointed() {
+  picture "$1.script" "$1.listing" | awk '
+    { row = $0 }
+    match(row, /<path d="M[0-9]+ [0-9]+H[0-9]+" class="dash"\/><path d="M[0-9]+/) {
+      lines++
+      tip = substr(row, RSTART, RLENGTH)
+      sub(/.*M/, "", tip)
+    }
+    match(row, /WAITS behind core [0-9]+/) {
+      waits++
+      core = substr(row, RSTART + 18, RLENGTH - 18)
+      if (tip != left[core] + 5 && tip != left[core] + 15) bad = 1
+    }
+    {
+      while (match(row, /<text x="[0-9]+" y="[0-9]+" class="b">core [0-9]+</)) {
+        x = core = substr(row, RSTART + 9, RLENGTH - 10)
+        row = substr(row, RSTART + RLENGTH)
+        sub(/".*/, "", x)
+        sub(/.* /, "", core)
+        left[core] = x
+      }
+      tip = ""
+    }
+    END { exit bad || lines != waits + (waits > 0) }'
 }
 
 # a broken picture is seen
@@ -116,6 +144,7 @@ for script in examples/*.script; do
   check "$example: stored timeline" stored "$example"
   check "$example: the listing's answers" true_to "$example"
   check "$example: picture" drawn "$example"
+  check "$example: who is first in the way" pointed "$example"
 done
 check "the stored picture of case A" diff docs/case-a.svg <(picture examples/case-a.script examples/case-a.listing)
 check "ill-formed pictures are seen" sees_ill_formed
@@ -143,6 +172,14 @@ check "no such file" refuses 2 "cannot read examples/none.listing" examples/case
 check "a folder" refuses 2 "cannot read examples" examples examples/case-a.listing
 check "script and listing exchanged" refuses 1 "does not begin with" examples/case-a.listing examples/case-a.script
 check "another listing" refuses 1 "cannot have been answered" examples/case-a.script examples/case-k.listing
+for named in - 1 2 00; do
+  sed "s/waits 0/waits $named/" examples/case-a.listing > "$work/other"
+  check "waits $named for waits 0" refuses 1 "line 10 of the script cannot have been answered 'waits $named'" \
+    examples/case-a.script "$work/other"
+done
+sed 's/waits 4/waits 2/' examples/first-in-the-way.listing > "$work/other"
+check "waits behind one that is over" refuses 1 "line 20 of the script cannot have been answered 'waits 2'" \
+  examples/first-in-the-way.script "$work/other"
 head -n 3 examples/case-l.script > "$work/head"
 check "a longer listing" refuses 1 "the listing has line 4, and the script has 3 lines" "$work/head" examples/case-l.listing
 
