@@ -1,4 +1,5 @@
--- The eight calls (document 01): for each the answer and what comes after it, refusals first, the smallest that applies.
+-- The eight calls (document 01, as document 02 amends it): for each the answer and what comes after it, refusals first, the smallest that
+-- applies.
 use mathlib.Core.Bool.{Bool, cond, not, _&&_}
 use mathlib.Core.List.{List, [], _∷_}
 use Prim.Native.Nat.{ℕ, zero, suc, _+_, _*_}
@@ -195,7 +196,7 @@ unfoldable pub leastBy : (ℕ → ℕ) → ℕ → (ℕ → Bool) → ℕ
 leastBy key zero f = 0
 leastBy key (suc n) f = cond (some n f) (cond (f n && ltb (key n) (key (leastBy key n f))) n (leastBy key n f)) n
 
--- the core with the smallest conflicting ticket, where the commit is blocked
+-- the core with the smallest conflicting ticket, where the commit is blocked (document 02, paper 1)
 abbrev pub firstAhead : Machine → ℕ → ℕ
 firstAhead m c = leastBy (λ e. coreAt m e .ticket) mostCores (contender m c)
 
