@@ -20,6 +20,9 @@
  *     5 written -
  *     6 committed 0
  *
+ * The value of a line is the ticket begun, the value read, the core that is first in the way of a commit that waits ("10 waits 0": of all
+ * earlier ones in conflict with it the one on core 0 began first), the setbacks of a commit, the job finished, the number of a refusal, or -.
+ *
  * The archive is build/libcards.a (make lib), for x86-64 and its System V calling convention. It needs no heap, no threads and no
  * operating system, and of the C library at most memcpy, memmove, memset and memcmp. Script and listing stand in memory, whole.
  *
