@@ -14,7 +14,7 @@ use Rattle.core.specs.declared.Answer.the-variants.{Refused}
 use Rattle.script.specs.declared.Columns.{Columns}
 use Rattle.script.specs.declared.Names.{Names}
 use Rattle.script.specs.declared.Names.the-variants as Names
-use Rattle.script.specs.Pieces.{lines}
+use Rattle.table.specs.Pieces.{lines}
 use Rattle.script.specs.Line.{names, spells}
 use Rattle.listing.specs.Text.{line, said}
 use Rattle.listing.proofs.Laws.{word-short, value-short}

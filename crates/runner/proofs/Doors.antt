@@ -17,7 +17,7 @@ use Rattle.machine.specs.declared.Machine.{Machine}
 use Rattle.machine.specs.Inside.{Formed, WellFormedWorld}
 use Rattle.core.proofs.TestLaws.{if-true, true-if, both}
 use Rattle.machine.proofs.Sound.Standing.{Standing, standing}
-use Rattle.script.specs.Pieces.{free}
+use Rattle.table.specs.Pieces.{free}
 use Rattle.runner.specs.declared.Reading.{Reading}
 use Rattle.request.specs.Asks.{mostLines}
 use Rattle.runner.specs.Kept.{held, unfinished, ReadingFits}

@@ -18,9 +18,10 @@ use Rattle.core.specs.Life.{struckBy}
 use Rattle.core.specs.declared.Answer.{Answer}
 use Rattle.core.specs.declared.Answer.the-variants.{Running, Begun, Written, Committed, Refused}
 use Rattle.machine.specs.Words.{Event}
-use Rattle.script.specs.Pieces as Pieces
-use Rattle.script.specs.Pieces.{onto, pieces, lines, same}
-use Rattle.script.specs.Line.{fields, place, ordered, names, verb, numbered, field, withNumber, withDash, spelt, meant, spells}
+use Rattle.table.specs.Pieces as Pieces
+use Rattle.table.specs.Pieces.{onto, pieces, lines, same}
+use Rattle.table.specs.Fields.{fieldsOf, place, placesOf, allStand, columns, columnsOf}
+use Rattle.script.specs.Line.{fields, ordered, names, verb, numbered, field, withNumber, withDash, spelt, meant, spells}
 use Rattle.listing.specs.Text.{said, line}
 use Rattle.runner.specs.Listing.{setUp, met, request, answered, valueRows, rowsAfter, rowsOf, rows, listed, listing}
 use Rattle.runner.specs.Runs.{anew, endsRun, eventOf, event, events}
@@ -112,7 +113,7 @@ computed : (map (λ row. listing (row .0)) table ≡ map (λ row. row .1) table)
     ≡ (did (Rule.Commit 0) (Committed 0) ∷ did (Rule.Write 0 0 5) Written ∷ did (Rule.Begin 0) (Begun 0)
     ∷ did (Rule.Release 0 7 90) Running ∷ did (Rule.Begin 0) (Refused 7) ∷ [])
     ∷ (did (Rule.Finish 0) (Refused 7) ∷ []) ∷ [])
-unfolding table twoRuns events endsRun anew event eventOf byLine whole caseA caseK caseL ends bytes flatten listing listed rowsOf rowsAfter valueRows answered met request setUp lines Pieces.withoutLastEmpty pieces onto same names ordered place spells meant fields verb field numbered withNumber withDash spelt readsAs isNumber allDigits noLeadingZero valueAfter spelling spellingIn line said rule setup first unless unlessLent released release begun begin setBackTold accessRefusal valueRead valued read written write contender blocked leastBy struckBy cleared changed through commitRefusal commit ended giveUp finished finish tally least running inRange setsWithin ownerListed idleClear zombieEmpty fewJobs unusedJobs lackedCores lackedObjects ownerFirst ticketsDiffer ticketsGiven ticketsCounted versionsBounded smallerTickets abortsBounded sound has collect some each none added joined meeting below
+unfolding table twoRuns events endsRun anew event eventOf byLine whole caseA caseK caseL ends bytes flatten listing listed rowsOf rowsAfter valueRows answered met request setUp lines Pieces.withoutLastEmpty pieces onto same fieldsOf place placesOf allStand columns columnsOf names ordered spells meant fields verb field numbered withNumber withDash spelt readsAs isNumber allDigits noLeadingZero valueAfter spelling spellingIn line said rule setup first unless unlessLent released release begun begin setBackTold accessRefusal valueRead valued read written write contender blocked leastBy struckBy cleared changed through commitRefusal commit ended giveUp finished finish tally least running inRange setsWithin ownerListed idleClear zombieEmpty fewJobs unusedJobs lackedCores lackedObjects ownerFirst ticketsDiffer ticketsGiven ticketsCounted versionsBounded smallerTickets abortsBounded sound has collect some each none added joined meeting below
 computed = (refl, refl)
 
 each-listing : map (λ row. listing (row .0)) table ≡ map (λ row. row .1) table

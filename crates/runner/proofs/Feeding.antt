@@ -10,8 +10,8 @@ use lib.Seq.{take-all, length-take-le, drop-cons, drop-drop, take-suc-set, take-
 use borrow.Author.Tests.{ne-eqb}
 use Rattle.machine.specs.declared.Machine.{Machine}
 use Rattle.script.specs.declared.Columns.{Columns}
-use Rattle.script.specs.Pieces.{lines, free}
-use Rattle.script.proofs.Laws.{lines-newline}
+use Rattle.table.specs.Pieces.{lines, free}
+use Rattle.table.proofs.Laws.{lines-newline}
 use Rattle.machine.specs.Rule.{World}
 use Rattle.machine.specs.declared.Outcome.{Outcome}
 use Rattle.core.specs.declared.Answer.{Answer}

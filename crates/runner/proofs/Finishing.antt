@@ -9,8 +9,8 @@ use lib.ListN.{length, take}
 use lib.Seq.{length-take-le}
 use borrow.Author.Tests.{eqb-true, eqb-false, ltb-true, ltb-false}
 use Rattle.machine.specs.Rule.{World}
-use Rattle.script.specs.Pieces.{lines}
-use Rattle.script.proofs.Laws.{lines-empty, lines-newline}
+use Rattle.table.specs.Pieces.{lines}
+use Rattle.table.proofs.Laws.{lines-empty, lines-newline}
 use Rattle.runner.specs.declared.Reading.{Reading}
 use Rattle.runner.specs.Listing.{rows, listed}
 use Rattle.runner.specs.Kept.{held, listedFrom, unfinished, rest, ReadingFits, KeptState, state, afterByte}

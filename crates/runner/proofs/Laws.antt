@@ -5,7 +5,7 @@ use mathlib.Core.List.{List, [], _∷_, _++_, flatten, append-assoc}
 use Prim.Native.Nat.{ℕ}
 use native.Mathlib.Omega.{arith}
 use lib.ListN.{length}
-use Rattle.script.specs.Pieces.{lines, free}
+use Rattle.table.specs.Pieces.{free}
 use Rattle.listing.specs.Text.{heading}
 use Rattle.runner.specs.declared.Reading.{Reading}
 use Rattle.runner.specs.Kept.{KeptState, rest, started, ReadingFits}

@@ -12,9 +12,11 @@ use Rattle.core.specs.declared.Answer.the-variants.{Refused}
 use Rattle.script.specs.declared.Columns.{Columns}
 use Rattle.script.specs.declared.Names.{Names}
 use Rattle.script.specs.declared.Names.the-variants as Names
-use Rattle.script.specs.Pieces.{lines, pieces, onto, withoutLastEmpty, free}
-use Rattle.script.specs.Line.{names, spells, fields, ordered as inOrder, place}
-use Rattle.script.proofs.Laws.{too-long, names-too-long, lines-begun, lines-last, some-piece, first, others, rest-of-line, later-lines}
+use Rattle.table.specs.Pieces.{lines, pieces, onto, withoutLastEmpty, free}
+use Rattle.table.specs.Fields.{fieldsOf, place, allStand, columns, columnsOf}
+use Rattle.script.specs.Line.{names, spells, ordered as inOrder}
+use Rattle.script.proofs.Laws.{too-long, names-too-long}
+use Rattle.table.proofs.Laws.{lines-begun, lines-last, some-piece, first, others, rest-of-line, later-lines}
 use Rattle.listing.specs.Text.{line}
 use Rattle.request.specs.declared.Asked.{Asked}
 use Rattle.request.specs.declared.Asked.the-variants as Asked
@@ -163,4 +165,4 @@ unfolding listedFrom rowsOf rowsAfter listed lines pieces withoutLastEmpty
 no-names at w = rw empty-bad refl
   where
     empty-bad : names [] ≡ Names.Malformed
-    empty-bad = unfold names fields inOrder place pieces in refl
+    empty-bad = unfold names inOrder columnsOf columns allStand fieldsOf place pieces in refl

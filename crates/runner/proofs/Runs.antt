@@ -23,7 +23,7 @@ use Rattle.script.specs.declared.Names.{Names}
 use Rattle.script.specs.declared.Names.the-variants as Names
 use Rattle.script.specs.declared.Columns.{Columns}
 use Rattle.script.specs.Line.{names, spells}
-use Rattle.script.specs.Pieces.{lines}
+use Rattle.table.specs.Pieces.{lines}
 use Rattle.listing.specs.Text.{heading, line}
 use Rattle.request.specs.Asks.{mostLines}
 use Rattle.runner.specs.Listing.{Request, Anew, Asks, request, setUp, met, nothing, answered, Row, unread, valueRows, rowsAfter, rowsOf, rows, listed, listing}

@@ -6,7 +6,7 @@ use Rattle.machine.specs.Record.{blank}
 use Rattle.core.specs.Tidy.{_⇒_}
 use Rattle.machine.specs.Sound.{sound}
 use Rattle.decimal.specs.Bytes.{byte}
-use Rattle.script.specs.Pieces.{free}
+use Rattle.table.specs.Pieces.{free}
 use Rattle.runner.specs.declared.Reading.{Reading}
 use Rattle.runner.specs.Kept.{keptBytes, lineRoom, unfinished, committedWords, pendingWords}
 use Rattle.request.specs.Asks.{mostLines}

@@ -17,7 +17,7 @@ use Rattle.script.specs.declared.Columns.{Columns}
 use Rattle.script.specs.declared.Names.{Names}
 use Rattle.script.specs.declared.Names.the-variants.{Order, Malformed}
 use Rattle.script.specs.Line.{longest, names, spells}
-use Rattle.script.specs.Pieces.{lines, free}
+use Rattle.table.specs.Pieces.{lines, free}
 use Rattle.runner.specs.declared.Reading.{Reading}
 use Rattle.request.specs.Asks.{mostLines}
 use Rattle.runner.specs.Listing.{answered, valueRows, rowsOf, listed}

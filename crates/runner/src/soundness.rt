@@ -12,7 +12,7 @@ ghost use lib.Dec.{eqb, leb, ltb};
 ghost use Rattle.core.specs.Tidy.{_⇒_};
 ghost use Rattle.machine.specs.Sound.{sound};
 ghost use Rattle.decimal.specs.Bytes.{byte};
-ghost use Rattle.script.specs.Pieces.{free};
+ghost use Rattle.table.specs.Pieces.{free};
 ghost use Rattle.request.specs.Asks.{mostLines};
 ghost use Rattle.runner.specs.Doors.{readable, asTaken, refusal};
 

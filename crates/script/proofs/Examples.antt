@@ -13,8 +13,9 @@ use Rattle.script.specs.declared.Line.the-variants.{Spells, Malformed}
 use Rattle.script.specs.declared.Columns.{Columns}
 use Rattle.script.specs.declared.Names.{Names}
 use Rattle.script.specs.declared.Names.the-variants as Names
-use Rattle.script.specs.Pieces.{onto, pieces, same}
-use Rattle.script.specs.Line.{callName, coreName, cardName, valueName, fields, place, ordered, names, verb, numbered, field, withNumber, withDash, spelt, meant, spells}
+use Rattle.table.specs.Pieces.{onto, pieces, same}
+use Rattle.table.specs.Fields.{fieldsOf, place, placesOf, allStand, columns, columnsOf}
+use Rattle.script.specs.Line.{callName, coreName, cardName, valueName, fourNames, fields, ordered, names, verb, numbered, field, withNumber, withDash, spelt, meant, spells}
 
 -- ---- words, and a line of them with one space between
 
@@ -87,13 +88,10 @@ table =
     ∷ []
 
 each-line : map (λ row. spells inOrder (joined (row .0))) table ≡ map (λ row. row .1) table
-unfolding spells meant fields pieces onto verb same field numbered withNumber withDash spelt readsAs isNumber allDigits noLeadingZero valueAfter spelling spellingIn
+unfolding spells meant fields fieldsOf pieces onto verb same field numbered withNumber withDash spelt readsAs isNumber allDigits noLeadingZero valueAfter spelling spellingIn
 each-line = refl
 
 -- ---- lines of names: all 24 orders of the four, then lines that give none
-
-abbrev four : List (List ℕ)
-four = callName ∷ coreName ∷ cardName ∷ valueName ∷ []
 
 -- a word put at every place of a list
 abbrev everywhere : List ℕ → List (List ℕ) → List (List (List ℕ))
@@ -115,8 +113,8 @@ placed o (Names.Order c) =
     && same (getD o (c .value) []) valueName
 placed o Names.Malformed = false
 
-each-order : map (λ o. placed o (names (joined o))) (orders four) ≡ replicate 24 true
-unfolding names fields pieces onto ordered place same
+each-order : map (λ o. placed o (names (joined o))) (orders fourNames) ≡ replicate 24 true
+unfolding names ordered columnsOf columns allStand placesOf fieldsOf pieces onto place same
 each-order = refl
 
 -- no byte, one name missing, one twice, five, two spaces in a row, a space at the end
@@ -131,5 +129,5 @@ bad =
     ∷ []
 
 bad-names : map (λ ws. names (joined ws)) bad ≡ replicate 6 Names.Malformed
-unfolding names fields pieces onto ordered place same
+unfolding names ordered columnsOf columns allStand placesOf fieldsOf pieces onto place same
 bad-names = refl

@@ -1,109 +1,20 @@
--- What a caller knows of lines: a line of more than 64 bytes spells no call and gives no order, and how the lines of a script go by what
--- stands in front of a newline.
-use mathlib.Core.Path.{_≡_, refl, _∙_}
-use mathlib.Core.Bool.{Bool, true, false, not, cond, and-eq-true-iff}
-use mathlib.Core.List.{List, [], _∷_, _++_, append-nil}
+-- What a caller knows of lines: a line of more than 64 bytes spells no call and gives no order.
+use mathlib.Core.Path.{_≡_}
+use mathlib.Core.List.{List}
 use Prim.Native.Nat.{ℕ, _<_}
-use lib.Dec.{eqb}
 use lib.ListN.{length}
-use borrow.Author.Tests.{lt-leb, eq-eqb, not-true}
+use Rattle.table.specs.Pieces.{same}
+use Rattle.table.specs.Fields.{place, allStand, columns, columnsOf}
+use Rattle.table.proofs.Cuts.{no-fields}
 use Rattle.script.specs.declared.Line.the-variants.{Malformed}
 use Rattle.script.specs.declared.Columns.{Columns}
 use Rattle.script.specs.declared.Names.the-variants as Names
-use Rattle.script.specs.Pieces.{onto, pieces, withoutLastEmpty, lines, same, free}
-use Rattle.script.specs.Line.{longest, fields, place, ordered, names, verb, meant, spelt, spells}
-
--- ---- a line of more than 64 bytes, and any other that has no four fields
-
-pub no-fields : (line : List ℕ) → longest < length line → fields line ≡ []
-unfolding fields
-no-fields line h = rw (lt-leb (length line) longest h)
-
--- a line that has no four fields
-pub no-call : (at : Columns) (line : List ℕ) → fields line ≡ [] → spells at line ≡ Malformed
-unfolding spells meant verb same spelt
-no-call at line e = rw e
-
-pub no-order : (line : List ℕ) → fields line ≡ [] → names line ≡ Names.Malformed
-unfolding names ordered place
-no-order line e = rw e
+use Rattle.script.specs.Line.{longest, fields, ordered, names, verb, meant, spelt, spells}
 
 pub too-long : (at : Columns) (line : List ℕ) → longest < length line → spells at line ≡ Malformed
-too-long at line h = no-call at line (no-fields line h)
+unfolding spells meant fields verb same spelt
+too-long at line h = rw (no-fields longest 4 line h)
 
 pub names-too-long : (line : List ℕ) → longest < length line → names line ≡ Names.Malformed
-names-too-long line h = no-order line (no-fields line h)
-
--- ---- the first piece of a list, and the others
-
-unfoldable pub first : List (List ℕ) → List ℕ
-first [] = []
-first (p ∷ ps) = p
-
-unfoldable pub others : List (List ℕ) → List (List ℕ)
-others [] = []
-others (p ∷ ps) = ps
-
-onto-first : (b : ℕ) (ps : List (List ℕ)) → onto b ps ≡ (b ∷ first ps) ∷ others ps
-unfolding onto first others
-onto-first b [] = refl
-onto-first b (p ∷ ps) = refl
-
-some-cut : (t : Bool) (b : ℕ) (ps : List (List ℕ))
-    → cond t ([] ∷ ps) (onto b ps) ≡ first (cond t ([] ∷ ps) (onto b ps)) ∷ others (cond t ([] ∷ ps) (onto b ps))
-unfolding first others
-some-cut true b ps = refl
-some-cut false b ps = rw onto-first
-
--- there is a first piece
-pub some-piece : (at : ℕ) (bs : List ℕ) → pieces at bs ≡ first (pieces at bs) ∷ others (pieces at bs)
-unfolding pieces first others
-some-piece at [] = refl
-some-piece at (b ∷ bs) = some-cut (eqb b at) b (pieces at bs)
-
--- bytes that are not cut stand in front of the first piece
-pub pieces-begun : (at : ℕ) (p rest : List ℕ) → free at p ≡ true → pieces at (p ++ rest) ≡ (p ++ first (pieces at rest)) ∷ others (pieces at rest)
-unfolding free pieces onto
-pieces-begun at [] rest h = some-piece at rest
-pieces-begun at (b ∷ p) rest h =
-    let k = and-eq-true-iff (not (eqb b at)) (free at p) .0 h in
-    rw (not-true (eqb b at) (k .0), pieces-begun at p rest (k .1))
-
-pub pieces-cut : (at : ℕ) (p rest : List ℕ) → free at p ≡ true → pieces at (p ++ at ∷ rest) ≡ p ∷ pieces at rest
-unfolding pieces first others
-pieces-cut at p rest h =
-    let here : pieces at (at ∷ rest) ≡ [] ∷ pieces at rest = rw (eq-eqb at at refl) in
-    pieces-begun at p (at ∷ rest) h ∙ rw (here, append-nil)
-
--- ---- the lines of a script
-
-pub lines-empty : lines [] ≡ []
-unfolding lines pieces withoutLastEmpty
-lines-empty = refl
-
--- a newline ends a line
-pub lines-newline : (p rest : List ℕ) → free 10 p ≡ true → lines (p ++ 10 ∷ rest) ≡ p ∷ lines rest
-unfolding lines withoutLastEmpty
-lines-newline p rest h = rw (pieces-cut 10 p rest h, some-piece 10 rest)
-
--- the rest of a line whose first bytes are gone, and the lines after it
-unfoldable pub rest-of-line : List ℕ → List ℕ
-rest-of-line rest = first (pieces 10 rest)
-
-unfoldable pub later-lines : List ℕ → List (List ℕ)
-later-lines rest = withoutLastEmpty (others (pieces 10 rest))
-
-last-kept : (b : ℕ) (p : List ℕ) (ps : List (List ℕ)) → withoutLastEmpty ((b ∷ p) ∷ ps) ≡ (b ∷ p) ∷ withoutLastEmpty ps
-unfolding withoutLastEmpty
-last-kept b p [] = refl
-last-kept b p (q ∷ ps) = refl
-
--- bytes that hold no newline begin a line
-pub lines-begun : (b : ℕ) (p rest : List ℕ) → free 10 (b ∷ p) ≡ true → lines (b ∷ p ++ rest) ≡ (b ∷ p ++ rest-of-line rest) ∷ later-lines rest
-unfolding lines rest-of-line later-lines
-lines-begun b p rest h = rw (pieces-begun 10 (b ∷ p) rest h, last-kept)
-
--- the last newline may be missing
-pub lines-last : (b : ℕ) (p : List ℕ) → free 10 (b ∷ p) ≡ true → lines (b ∷ p) ≡ (b ∷ p) ∷ []
-unfolding rest-of-line later-lines pieces first others withoutLastEmpty
-lines-last b p h = rw append-nil at (lines-begun b p [] h)
+unfolding names ordered columnsOf columns allStand place
+names-too-long line h = rw (no-fields longest 4 line h)

@@ -1,8 +1,6 @@
 -- The laws that callers cite, and the facts that they and the functions' proofs rest on.
 pub mod Laws
-mod Same
-mod Ends
-mod Places
+mod Orders
 mod Verbs
 mod Takes
 mod Examples

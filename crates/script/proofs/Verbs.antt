@@ -8,9 +8,9 @@ use lib.ListN.{length, getD, drop}
 use borrow.Author.Tests.{ne-eqb}
 use Rattle.script.specs.declared.Verb.{Verb}
 use Rattle.script.specs.declared.Verb.the-variants as Verb
-use Rattle.script.specs.Pieces.{same}
+use Rattle.table.specs.Pieces.{same}
 use Rattle.script.specs.Line.{verb}
-use Rattle.script.proofs.Same.{other-length}
+use Rattle.table.proofs.SameBytes.{other-length}
 
 pub led : (f : List ℕ) (b : ℕ) → (length f ≡ 0 → ⊥) → getD f 0 0 ≡ b → f ≡ b ∷ drop 1 f
 led [] b h e = absurd (h refl)

@@ -1,4 +1,2 @@
 -- The definitions that the contracts cite.
-pub mod Pieces
 pub mod Line
-pub mod Spaces

@@ -1,10 +1,10 @@
 -- Which call a line spells, and which order of the fields a line of names gives.
-use Prim.Native.Nat.{ℕ, suc, _+_}
-use mathlib.Core.Bool.{Bool, cond, _&&_}
+use Prim.Native.Nat.{ℕ}
+use mathlib.Core.Bool.{cond}
 use mathlib.Core.List.{List, [], _∷_}
-use lib.Dec.{eqb, leb, ltb}
-use lib.ListN.{length, getD, drop}
-use Rattle.decimal.specs.Bytes.{byte, ascii}
+use lib.Dec.{eqb, leb}
+use lib.ListN.{length, getD}
+use Rattle.decimal.specs.Bytes.{ascii}
 use Rattle.decimal.specs.Reading.{readsAs}
 use Rattle.decimal.specs.declared.Number.{Number}
 use Rattle.decimal.specs.declared.Number.the-variants as Read
@@ -19,7 +19,8 @@ use Rattle.script.specs.declared.Verb.{Verb}
 use Rattle.script.specs.declared.Verb.the-variants as Verb
 use Rattle.script.specs.declared.Field.{Field}
 use Rattle.script.specs.declared.Field.the-variants as Field
-use Rattle.script.specs.Pieces.{pieces, same}
+use Rattle.table.specs.Pieces.{same}
+use Rattle.table.specs.Fields.{fieldsOf, columnsOf}
 
 -- ---- the fields of a line
 
@@ -29,21 +30,7 @@ longest = 64
 
 -- the four fields of a line, one space between; none where the line is too long or has more or fewer fields
 unfoldable pub fields : List ℕ → List (List ℕ)
-fields line = cond (leb (length line) longest && eqb (length (pieces (byte " ") line)) 4) (pieces (byte " ") line) []
-
--- how many bytes stand before the first space, or before the end
-unfoldable pub untilSpace : List ℕ → ℕ
-untilSpace [] = 0
-untilSpace (b ∷ bs) = cond (eqb b (byte " ")) 0 (suc (untilSpace bs))
-
--- where the field that begins at a place ends: at the first space from there on, or at the line's end; past the end, at the place itself
-unfoldable pub fieldEnd : List ℕ → ℕ → ℕ
-fieldEnd line from = from + untilSpace (drop from line)
-
--- where the field after the one that begins at a place begins: past that one and its space, past the line's end where it is the last;
--- past the end, at the place itself
-unfoldable pub afterField : List ℕ → ℕ → ℕ
-afterField line from = cond (leb from (length line)) (fieldEnd line from + 1) from
+fields line = fieldsOf longest 4 line
 
 -- ---- the line of names: call, core, card, value, each once, in any order
 
@@ -59,23 +46,17 @@ cardName = ascii "card"
 abbrev pub valueName : List ℕ
 valueName = ascii "value"
 
--- the place of the first field that is this name; past the last, where none is
-unfoldable pub place : List ℕ → List (List ℕ) → ℕ
-place name [] = 0
-place name (f ∷ fs) = cond (same f name) 0 (suc (place name fs))
+abbrev pub fourNames : List (List ℕ)
+fourNames = callName ∷ coreName ∷ cardName ∷ valueName ∷ []
 
-abbrev pub stands : List ℕ → List (List ℕ) → Bool
-stands name fs = ltb (place name fs) (length fs)
-
--- four names that all stand in four fields stand in one each
-unfoldable pub ordered : List (List ℕ) → Names
-ordered fs =
-    cond (stands callName fs && stands coreName fs && stands cardName fs && stands valueName fs)
-    (Names.Order (record { call = place callName fs; core = place coreName fs; card = place cardName fs; value = place valueName fs }))
+-- the order of the fields, by the places of the four names; none where they stand nowhere
+unfoldable pub ordered : List ℕ → Names
+ordered at =
+    cond (eqb (length at) 4) (Names.Order (record { call = getD at 0 0; core = getD at 1 0; card = getD at 2 0; value = getD at 3 0 }))
     Names.Malformed
 
 unfoldable pub names : List ℕ → Names
-names line = ordered (fields line)
+names line = ordered (columnsOf fourNames longest line)
 
 -- ---- a line of values
 

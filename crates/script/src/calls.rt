@@ -2,29 +2,27 @@
 use crate::Call;
 use crate::Columns;
 use crate::Field;
+use crate::LONGEST;
 use crate::Line;
 use crate::Verb;
-use crate::fields::Bounds;
-use crate::fields::cut;
-use crate::fields::part;
-use crate::fields::same;
 use decimal::Number;
+use table::cut;
+use table::inside::part;
+use table::same;
 ghost use mathlib.Core.Path.{_≡_};
 ghost use mathlib.Core.Bool.{cond};
-ghost use Rattle.script.specs.Pieces.{same};
+ghost use Rattle.table.specs.Pieces.{same};
 ghost use Rattle.script.specs.Line.{verb, field, withDash, spelt, spells};
 
-// The call that a line spells, with its fields in this order.
+// The call that a line spells, with its fields in this order. Of a line that has not four fields each part is empty, and spells none.
 pub fn parse(at: Columns, line: &[u8]) -> Line
     ensures { λ r. ⌜ r ≡ spells at (now (line .entry)) ⌝ }
 {
-    let Bounds::Four(s) = cut(line) else {
-        return Line::Malformed;
-    };
-    let call = verb(part(line, s, at.call));
-    let core = field(part(line, s, at.core));
-    let card = field(part(line, s, at.card));
-    let value = field(part(line, s, at.value));
+    let f = cut(line, LONGEST, 4);
+    let call = verb(part(line, f, at.call));
+    let core = field(part(line, f, at.core));
+    let card = field(part(line, f, at.card));
+    let value = field(part(line, f, at.value));
     spelt(call, core, card, value)
 }
 

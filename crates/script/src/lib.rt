@@ -1,15 +1,16 @@
 // Which call a line of a script spells (document 01, 'Script and listing'). A script's first line says the order of the fields;
 // each other line is a call or malformed.
 //
-// `order` reads the first line, and `parse` each other line. `reader` is the line reader, by which a line is cut. Their contracts cite
-// `specs/`; `proofs/Laws.antt` has what a caller knows of what stands there. The public functions require nothing.
+// `order` reads the first line, and `parse` each other line, both over `table`. Their contracts cite `specs/`; `proofs/Laws.antt` has what
+// a caller knows of what stands there. The public functions require nothing.
 mod calls;
-mod fields;
 mod heading;
-pub mod reader;
 
 pub use calls::parse;
 pub use heading::order;
+
+// The most bytes that a line may have, without its newline.
+const LONGEST: usize = 64;
 
 // A call as a script spells it: its numbers, whatever they are.
 pub enum Call {

@@ -5,7 +5,7 @@ use Prim.Native.Nat.{_-_}
 use native.Mathlib.Omega.{arith}
 use lib.ListN.{length, drop}
 use denote.Ref.{now}
-use Rattle.script.specs.Pieces.{free}
+use Rattle.table.specs.Pieces.{free}
 use Rattle.runner.proofs.Doors.{newline-here, newline-later, newline-none}
 use Rattle.runner.proofs.soundness.no_newline.Statement.{statement}
 use Rattle.runner.proofs.soundness.no_newline.Tie as tie

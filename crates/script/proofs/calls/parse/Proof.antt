@@ -1,29 +1,24 @@
 -- `script::calls::parse` meets its contract: each part is the field that the definition takes, and `spelt` says what they spell.
-use mathlib.Core.Path.{sym, _∙_}
+use mathlib.Core.Path.{_≡_, _∙_}
+use native.Mathlib.Omega.{arith}
 use denote.Ref.{now}
 use borrow.Author.Needs.{needs}
-use Rattle.script.specs.Line.{meant, spells}
-use Rattle.script.specs.Spaces.{Spaced}
-use Rattle.script.proofs.Laws.{no-call}
-use Rattle.script.proofs.Ends.{spaced, not-parted}
+use Rattle.table.specs.Cut.{Fielded, fieldsBy}
+use Rattle.table.proofs.Cuts.{fielded, cut-fields}
+use Rattle.script.specs.Line.{longest, fields, meant, spells}
 use Rattle.script.proofs.calls.parse.Statement.{statement}
 use Rattle.script.proofs.calls.parse.Tie as tie
 
 cut-requires : tie.Need-cut-requires
 cut-requires c κs = search needs
 
-enum-known-s : tie.Need-enum-known-s
-enum-known-s c = search needs
+-- the line's fields were looked for
+known : (c : tie.After-cut) → Fielded (now (c .before .before .args .line)) (c .cut .result)
+known c = fielded longest 4 (now (c .before .before .args .line)) (c .cut .ensures)
 
-enum-told : tie.Need-enum-told
-enum-told c = search needs
-
-returns : tie.Need-returns
-returns c = sym (no-call _ _ (not-parted _ (c .enum-told .given .1) (c .before .before .cut .ensures)))
-
--- the line's three spaces were found
-known : (k : tie.After-known-told) → Spaced (now (k .before .before .before .before .before .args .line)) (k .before .s .given .0 .0)
-known k = spaced _ (k .before .s .given .1) (k .before .before .before .cut .ensures)
+are : (c : tie.After-cut) → fieldsBy (c .cut .result) (now (c .before .before .args .line)) ≡ fields (now (c .before .before .args .line))
+unfolding fields
+are c = cut-fields longest 4 (now (c .before .before .args .line)) (omega arith) (c .cut .ensures)
 
 part-requires : tie.Need-part-requires
 part-requires c κs = known c
@@ -52,9 +47,9 @@ field-requires-3 c κs = search needs
 spelt-requires : tie.Need-spelt-requires
 spelt-requires c κs = search needs
 
-returns-2 : tie.Need-returns-2
+returns : tie.Need-returns
 unfolding spells meant
-returns-2 c =
+returns c =
     let value = c .before in
     let card = value .before .before in
     let core = card .before .before in
@@ -69,6 +64,7 @@ returns-2 c =
       card .before .part3 .ensures,
       value .field3 .ensures,
       value .before .part4 .ensures,
+      are (call .before .before),
     )
 
 pub parse-spec : {M : Type 1} → statement M
@@ -76,9 +72,6 @@ parse-spec =
     tie.close
     (tie.spec
     cut-requires
-    enum-known-s
-    enum-told
-    returns
     part-requires
     verb-requires
     part-requires-2
@@ -88,4 +81,4 @@ parse-spec =
     part-requires-4
     field-requires-3
     spelt-requires
-    returns-2)
+    returns)

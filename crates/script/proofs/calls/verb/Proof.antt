@@ -5,7 +5,7 @@ use Prim.Native.Nat.{ℕ}
 use lib.ListN.{getD, drop}
 use denote.Ref.{now}
 use borrow.Author.Needs.{needs}
-use Rattle.script.specs.Pieces.{same}
+use Rattle.table.specs.Pieces.{same}
 use Rattle.script.specs.Line.{verb}
 use Rattle.script.proofs.Verbs.{led, empty-verb, only-read, only-release, unknown-verb}
 use Rattle.script.proofs.calls.verb.Statement.{statement}

@@ -1,0 +1,4 @@
+-- The definitions that the contracts cite.
+pub mod Pieces
+pub mod Fields
+pub mod Cut
