@@ -1,0 +1,11 @@
+pub mod Laws
+pub mod CardLaws
+pub mod LineLaws
+pub mod Gathered
+pub mod ReadLaws
+pub mod NamesLaws
+pub mod CardsWritten
+pub mod Written
+pub mod Longest
+pub mod Worked
+pub mod Examples
