@@ -1,11 +1,9 @@
 // The lines of a listing (document 01, 'Script and listing'): the heading, and one line for each line read.
 //
 // The contracts cite `specs/Text.antt`: `line n a` is the line for line n of the script, and `put` what putting a text over the first
-// bytes of an output leaves there. `proofs/Laws.antt` has what a caller knows of them. The public functions require nothing;
-// `put_field` and `put_number` ask that ten bytes are left.
+// bytes of an output leaves there. `proofs/Laws.antt` has what a caller knows of them. The functions require nothing.
 use core::Answer;
 ghost use mathlib.Core.Path.{_≡_};
-ghost use Prim.Native.Nat.{_+_, _≤_};
 ghost use lib.ListN.{length, take};
 ghost use Rattle.decimal.specs.Spelling.{spelling};
 ghost use Rattle.listing.specs.Text.{heading, spaced, valueText, fieldText, line, fitting, put, fittingAt, placed};
@@ -79,7 +77,6 @@ fn said_of(answer: Answer) -> Said
 
 // Puts a value over the output's bytes from `at` on, and answers how many bytes that is.
 fn put_field(field: Field, output: &mut [u8], at: usize) -> usize
-    requires { ⌜ at + 10 ≤ length (now output) ⌝ }
     ensures count { λ r. ⌜ r ≡ length (fittingAt at (fieldText field) (now (output .entry))) ⌝ }
     ensures bytes { λ _. ⌜ now (output .exit) ≡ placed at (fieldText field) (now (output .entry)) ⌝ }
 {
@@ -90,9 +87,8 @@ fn put_field(field: Field, output: &mut [u8], at: usize) -> usize
 }
 
 // Puts n's digits over the output's bytes from `at` on, and answers how many there are: they are printed into a scratch, and the part
-// that comes back is copied.
-fn put_number(n: u32, output: &mut [u8], at: usize) -> usize
-    requires { ⌜ at + 10 ≤ length (now output) ⌝ }
+// that comes back is copied. Where they do not fit, the output keeps its bytes, and the answer is 0.
+pub fn put_number(n: u32, output: &mut [u8], at: usize) -> usize
     ensures count { λ r. ⌜ r ≡ length (fittingAt at (spelling n) (now (output .entry))) ⌝ }
     ensures bytes { λ _. ⌜ now (output .exit) ≡ placed at (spelling n) (now (output .entry)) ⌝ }
 {
