@@ -6,7 +6,7 @@ cd "$(dirname "$0")/.."
 tests/tool.sh gcc
 [ -r build/libcards.a ] || { echo "build.sh: no build/libcards.a; make lib makes it" >&2; exit 1; }
 strict="-Wall -Wextra -Werror -Iinclude"
-sources="host/cards_host.c host/lent.c host/selftest.c host/stack.c host/tasks.c"
+sources="host/cards_host.c host/lent.c host/selftest.c host/sheets.c host/stack.c host/tasks.c"
 libraries="build/libcards.a -lpthread"
 sanitizers="-fsanitize=address,undefined -fno-sanitize-recover=all"
 
@@ -24,6 +24,7 @@ else
 fi
 rm -f build/probe
 if echo 'int main() {}' | gcc -x c++ -fsyntax-only - 2>/dev/null; then
-  printf '#include "cards.h"\nsize_t (*const entry)(const uint8_t *, size_t, uint8_t *, size_t) = cards_run;\n' |
+  printf '%s\n' '#include "cards.h"' 'size_t (*const entry)(const uint8_t *, size_t, uint8_t *, size_t) = cards_run;' \
+    'size_t (*const sheets)(const uint8_t *, size_t, uint32_t *, size_t) = cards_levels;' |
     gcc -x c++ -std=c++11 -fsyntax-only -pedantic $strict -
 fi

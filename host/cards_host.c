@@ -3,10 +3,14 @@
 // cards_host frames: takes scripts on standard input and answers each with its listing, both as a length in four bytes, the lowest
 //   first, and the bytes. Each script is run with outputs of several sizes among canaries; a breach is a line and status 1.
 // cards_host stack FILE: prints how many bytes of stack the script takes in one pass, in two and where the output is too small.
+// cards_host levels [FILE]: prints the levels of the tasks of the sheet in FILE, or of standard input: what `levels` prints.
+// cards_host shipped: prints the shipped sheet.
+// cards_host table: prints the constant table of its levels.
 // cards_host selftest: calls whose results are known.
 #include "cards.h"
 #include "lent.h"
 #include "selftest.h"
+#include "sheets.h"
 #include "stack.h"
 
 #include <errno.h>
@@ -59,6 +63,11 @@ static int run(const char *name, const char *size) {
   return bad;
 }
 
+static int print(const void *bytes, size_t length) {
+  if (fwrite(bytes, 1, length, stdout) == length && !fflush(stdout)) return 0;
+  return perror("cards_host: standard output"), 2;
+}
+
 static uint32_t number(const uint8_t bytes[4]) {
   return bytes[0] | (uint32_t)bytes[1] << 8 | (uint32_t)bytes[2] << 16 | (uint32_t)bytes[3] << 24;
 }
@@ -66,8 +75,8 @@ static uint32_t number(const uint8_t bytes[4]) {
 static int answer(struct outcome outcome) {
   size_t n = outcome.length;
   const uint8_t bytes[4] = {(uint8_t)n, (uint8_t)(n >> 8), (uint8_t)(n >> 16), (uint8_t)(n >> 24)};
-  if (fwrite(bytes, 1, 4, stdout) == 4 && fwrite(outcome.written, 1, n, stdout) == n && !fflush(stdout)) return 0;
-  return perror("cards_host: standard output"), 2;
+  int bad = print(bytes, 4);
+  return bad ? bad : print(outcome.written, n);
 }
 
 static int frames(void) {
@@ -103,11 +112,34 @@ static int stack(const char *name) {
   return 0;
 }
 
+static int levels(const char *name) {
+  size_t length;
+  uint8_t *sheet = file_bytes(name, &length);
+  char text[LEVELS_TEXT];
+  length = levels_text(sheet, length, text);
+  free(sheet);
+  return print(text, length);
+}
+
+static int shipped(void) {
+  uint8_t sheet[CARDS_SHIPPED_BYTES];
+  return print(sheet, cards_shipped_sheet(sheet, sizeof sheet));
+}
+
+static int table(void) {
+  char text[LEVELS_TEXT];
+  return print(text, shipped_text(text));
+}
+
 int main(int argc, char **argv) {
   const char *mode = argc > 1 ? argv[1] : "";
   if (!strcmp(mode, "run") && (argc == 3 || argc == 4)) return run(argv[2], argc == 4 ? argv[3] : NULL);
   if (!strcmp(mode, "frames") && argc == 2) return frames();
   if (!strcmp(mode, "stack") && argc == 3) return stack(argv[2]);
+  if (!strcmp(mode, "levels") && argc <= 3) return levels(argc == 3 ? argv[2] : "/dev/stdin");
+  if (!strcmp(mode, "shipped") && argc == 2) return shipped();
+  if (!strcmp(mode, "table") && argc == 2) return table();
   if (!strcmp(mode, "selftest") && argc == 2) return selftest() ? 1 : 0;
-  return fprintf(stderr, "usage: cards_host run FILE [OUTPUT_LENGTH] | frames | stack FILE | selftest\n"), 2;
+  fprintf(stderr, "usage: cards_host run FILE [OUTPUT_LENGTH] | frames | stack FILE | levels [FILE] | shipped | table | selftest\n");
+  return 2;
 }

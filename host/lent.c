@@ -17,7 +17,7 @@ struct area {
   size_t room;
 };
 
-static struct area script_area, output_area;
+static struct area input_area, output_area;
 
 // Room for so many bytes; they end where the forbidden page begins, and canaries fit in front of them.
 static uint8_t *place(struct area *area, size_t length) {
@@ -51,17 +51,17 @@ size_t lines_of(const uint8_t *script, size_t length) {
   return lines;
 }
 
-struct outcome run_lent(const uint8_t *script, size_t script_length, size_t output_length) {
+struct outcome lend(lent_call *entry, const uint8_t *input, size_t input_length, size_t output_length) {
   static unsigned call;
   call++;
-  uint8_t *lent_script = place(&script_area, script_length);
-  if (script_length) memcpy(lent_script, script, script_length);
+  uint8_t *lent_input = place(&input_area, input_length);
+  if (input_length) memcpy(lent_input, input, input_length);
   size_t whole = CANARY + output_length + CANARY;
   uint8_t *front = place(&output_area, whole);
   for (size_t at = 0; at < whole; at++) front[at] = pattern(at, call);
   uint8_t *output = front + CANARY;
 
-  size_t length = cards_run(lent_script, script_length, output, output_length);
+  size_t length = entry(lent_input, input_length, output, output_length);
 
   struct outcome outcome = {output, length, NULL};
   if (length > output_length)
@@ -72,9 +72,13 @@ struct outcome run_lent(const uint8_t *script, size_t script_length, size_t outp
     outcome.fault = "a byte after the output is changed";
   else if (!kept(front, CANARY + length, CANARY + output_length, call))
     outcome.fault = length ? "a byte past the length is changed" : "the length is 0, but the output is touched";
-  else if (script_length && memcmp(lent_script, script, script_length))
-    outcome.fault = "the script is changed";
+  else if (input_length && memcmp(lent_input, input, input_length))
+    outcome.fault = "the input is changed";
   return outcome;
+}
+
+struct outcome run_lent(const uint8_t *script, size_t script_length, size_t output_length) {
+  return lend(cards_run, script, script_length, output_length);
 }
 
 static uint8_t *listing;

@@ -1,4 +1,4 @@
-// Runs cards_run on lent bytes and looks at everything round them.
+// Calls the functions of cards.h on lent bytes and looks at everything round them.
 #ifndef LENT_H
 #define LENT_H
 
@@ -15,8 +15,14 @@ struct outcome {
 // The number of lines for which the output is measured: one more than the newlines, and no more than are read.
 size_t lines_of(const uint8_t *script, size_t length);
 
-// One call. The script ends at a page that nobody may read; the output stands between canaries, with such a page behind them. A
-// fault is: more said to be written than was lent, a canary or a byte past the listing changed, the script changed.
+// A function of cards.h that reads lent bytes and writes to lent ones. Returns how many bytes it says that it wrote.
+typedef size_t lent_call(const uint8_t *input, size_t input_length, uint8_t *output, size_t output_length);
+
+// One call. The input ends at a page that nobody may read; the output stands between canaries, with such a page behind them. A
+// fault is: more said to be written than was lent, a canary or a byte past what was written changed, the input changed.
+struct outcome lend(lent_call *call, const uint8_t *input, size_t input_length, size_t output_length);
+
+// One call of cards_run.
 struct outcome run_lent(const uint8_t *script, size_t script_length, size_t output_length);
 
 // Calls with an output that is always enough, then exact, one byte larger, one byte smaller and empty ones, and holds all to what

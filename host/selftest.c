@@ -2,6 +2,7 @@
 
 #include "cards.h"
 #include "lent.h"
+#include "sheets.h"
 #include "stack.h"
 #include "tasks.h"
 
@@ -23,6 +24,11 @@ static const char all_calls[] = "call core card value\nsetup 16 64 -\nrelease 15
                                 "finish 15 - -\nno call\n";
 static const char refused_names[] = "line answer value\n1 refused 11\n";
 
+// Table 6.1 of source 002, the shipped sheet, and its levels.
+static const char table_sheet[] = "task core deadline cards\n1 0 50 3\n2 1 100 1\n3 2 80 1,2\n4 3 70 2\n5 4 120 3\n6 5 60 -\n";
+static const char table_levels[] = "1 6 6\n2 2 4\n3 3 4\n4 4 4\n5 1 6\n6 5 0\n";
+static const char refused_sheet[] = "refused 13\n";
+
 static int checks, failures;
 
 static void check(int good, const char *name, const char *why) {
@@ -39,6 +45,15 @@ static void listed(const char *name, const void *script, size_t length, const ch
   if (outcome.fault || !expected) return;
   int same = outcome.length == strlen(expected) && !memcmp(outcome.written, expected, outcome.length);
   check(same, name, "other listing");
+}
+
+// The levels of a sheet with every number of words lent, and as text, if they are known.
+static void levelled(const char *name, const void *sheet, size_t length, const char *expected) {
+  struct outcome outcome = levels_all_ways(sheet, length);
+  check(!outcome.fault, name, outcome.fault ? outcome.fault : "");
+  char text[LEVELS_TEXT];
+  size_t written = levels_text(sheet, length, text);
+  if (expected) check(written == strlen(expected) && !memcmp(text, expected, written), name, "other levels");
 }
 
 // Every output length from none to a few more than the listing has.
@@ -68,6 +83,7 @@ static void garbage(uint64_t seed) {
     bytes[at] = (uint8_t)(seed >> 56);
   }
   listed("garbage", bytes, SIZE, refused_names);
+  levelled("garbage", bytes, SIZE, refused_sheet);
   memcpy(bytes, names, strlen(names));
   listed("garbage below names", bytes, SIZE, NULL);
   memset(bytes, 0, SIZE);
@@ -104,6 +120,12 @@ static void together(void) {
 }
 
 // Calls stay within the stack of the header.
+static void levels_stack_of(const char *name, const char *sheet) {
+  size_t need = levels_stack((const uint8_t *)sheet, strlen(sheet));
+  printf("stack, %s: %zu bytes\n", name, need);
+  check(need <= CARDS_STACK_ENOUGH, name, "levels take more stack than cards.h says");
+}
+
 static void stack_of(const char *name, const char *script) {
   struct stack_need need = stack_need((const uint8_t *)script, strlen(script));
   printf("stack, %s: one pass %zu, two passes %zu, refused %zu bytes\n", name, need.one_pass, need.two_passes, need.refused);
@@ -135,12 +157,62 @@ static void longest_line(void) {
   free(script);
 }
 
+// Short sheets whose levels are plain.
+static void sheets(void) {
+  static const char nulls[] = "task core deadline cards\n1 0 50 3\0\n";
+  static const char names[] = "cards task deadline core\n";
+  levelled("table 6.1", table_sheet, strlen(table_sheet), table_levels);
+  levelled("table 6.1 without its last newline", table_sheet, strlen(table_sheet) - 1, table_levels);
+  levelled("one task, names in another order", "cards task deadline core\n0,63 65535 0 15\n", 41, "65535 1 1\n");
+  levelled("no byte of a sheet", "", 0, refused_sheet);
+  levelled("names of a sheet alone", names, strlen(names), refused_sheet);
+  levelled("a null byte in a sheet", nulls, sizeof nulls - 1, refused_sheet);
+  for (size_t length = 0; length < strlen(table_sheet); length++) levelled("table 6.1, cut off", table_sheet, length, NULL);
+}
+
+// Sheets of 32 tasks and of 33, all in one group: the last task has the lowest level, and its transaction the first one's.
+static void most_tasks(void) {
+  char sheet[1024], last[32], text[LEVELS_TEXT];
+  int length = sprintf(sheet, "task core deadline cards\n");
+  for (int n = 0; n < CARDS_TASKS_MOST; n++) length += sprintf(sheet + length, "%d %d %d %d,63\n", n, n % 16, n, n);
+  levelled("32 tasks", sheet, (size_t)length, NULL);
+  size_t written = levels_text((const uint8_t *)sheet, (size_t)length, text);
+  size_t expected = (size_t)sprintf(last, "\n%d 1 %d\n", CARDS_TASKS_MOST - 1, CARDS_TASKS_MOST);
+  check(written > expected && !memcmp(text + written - expected, last, expected), "32 tasks", "other levels");
+  levels_stack_of("levels of 32 tasks", sheet);
+  length += sprintf(sheet + length, "32 0 0 -\n");
+  levelled("33 tasks", sheet, (size_t)length, refused_sheet);
+}
+
+// The shipped sheet into outputs of every length, and its constant table, which is what is worked out from its bytes.
+static void shipped(void) {
+  size_t exact = strlen(table_sheet);
+  check(exact == CARDS_SHIPPED_BYTES, "cards.h", "CARDS_SHIPPED_BYTES is another number");
+  for (size_t lent = 0; lent < exact + 9; lent++) {
+    struct outcome outcome = lend(shipped_call, NULL, 0, lent);
+    check(!outcome.fault, "shipped sheet, every length", outcome.fault ? outcome.fault : "");
+    size_t expected = lent < exact ? 0 : exact;
+    check(outcome.length == expected && !memcmp(outcome.written, table_sheet, expected), "shipped sheet, every length", "other bytes");
+  }
+  char table[LEVELS_TEXT], worked[LEVELS_TEXT];
+  size_t length = shipped_text(table);
+  printf("shipped table:\n%.*s", (int)length, table);
+  check(length == strlen(table_levels) && !memcmp(table, table_levels, length), "shipped table", "other levels");
+  check(length == levels_text((const uint8_t *)table_sheet, exact, worked) && !memcmp(table, worked, length), "shipped table",
+        "cards_levels gives others");
+  const size_t past[] = {cards_shipped_tasks(), cards_shipped_tasks() + 1, 64, SIZE_MAX};
+  for (size_t n = 0; n < sizeof past / sizeof *past; n++)
+    check(!cards_shipped_task(past[n]) && !cards_shipped_task_level(past[n]) && !cards_shipped_transaction_level(past[n]),
+          "shipped table", "past the last task there is one");
+}
+
 // The header's version as text is its version in numbers, and its largest output is enough for its lines.
 static void header(void) {
   char version[32];
   snprintf(version, sizeof version, "%d.%d", CARDS_VERSION_MAJOR, CARDS_VERSION_MINOR);
   check(!strcmp(version, CARDS_VERSION), "cards.h", "CARDS_VERSION is not its numbers");
   check(CARDS_OUTPUT_MOST == CARDS_OUTPUT_ENOUGH(CARDS_LINES_MOST), "cards.h", "CARDS_OUTPUT_MOST is another number");
+  check(CARDS_LEVELS_WORDS == 3 * CARDS_TASKS_MOST, "cards.h", "CARDS_LEVELS_WORDS is another number");
 }
 
 int selftest(void) {
@@ -151,9 +223,14 @@ int selftest(void) {
   garbage(2);
   together();
   longest_line();
+  sheets();
+  most_tasks();
+  shipped();
   header();
   stack_of("case A", case_a);
   stack_of("every call", all_calls);
+  levels_stack_of("levels of table 6.1", table_sheet);
+  levels_stack_of("levels refused", case_a);
   printf("host: %d checks, %d failures\n", checks, failures);
   return failures;
 }

@@ -1,4 +1,4 @@
-// Calls of cards_run whose results are known.
+// Calls of the functions of cards.h whose results are known.
 #ifndef SELFTEST_H
 #define SELFTEST_H
 

@@ -1,4 +1,4 @@
-// Stack that calls of cards_run take.
+// Stack that calls of the functions of cards.h take.
 #ifndef STACK_H
 #define STACK_H
 
@@ -12,5 +12,8 @@ struct stack_need {
 };
 
 struct stack_need stack_need(const uint8_t *script, size_t script_length);
+
+// The same for cards_levels, into CARDS_LEVELS_WORDS words.
+size_t levels_stack(const uint8_t *sheet, size_t sheet_length);
 
 #endif

@@ -8,7 +8,6 @@ use lib.Dec.{leb}
 use lib.ListN.{length, take, drop, length-take, length-append, take-append-drop, drop-of-length-le}
 use lib.Seq.{length-take-le, take-at, drop-at, drop-drop, drop-append-add}
 use borrow.Author.Tests.{leb-true}
-use Rattle.script.specs.Pieces.{lines}
 use Rattle.listing.specs.Text.{heading, placed, fitting, put}
 use Rattle.listing.proofs.Laws.{fitting-whole, put-whole, placed-whole, placed-length}
 use Rattle.runner.specs.declared.Reading.{Reading}

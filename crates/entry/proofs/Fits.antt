@@ -1,17 +1,21 @@
 -- The listing fits the output, or is refused. The first run is lent no byte of the output: `part` is what it leaves of none.
 use mathlib.Core.Path.{_≡_, refl, sym, ap, _∙_}
+use mathlib.Core.Bool.{Bool, true, false, cond}
 use mathlib.Core.List.{List, [], _∷_, _++_}
 use Prim.Native.Nat.{ℕ, _≤_, _<_}
+use native.Mathlib.Nat.{zero-add}
 use native.Mathlib.Omega.{arith}
+use lib.Dec.{leb}
 use lib.ListN.{length, drop}
 use borrow.Author.Tests.{le-leb, lt-leb}
+use Rattle.listing.specs.Text.{fittingAt, placed}
 use Rattle.entry.specs.Fitting.{wholeOrNone, outputAfter}
 
 none : (xs : List ℕ) → length xs ≡ 0 → xs ≡ []
 none [] e = refl
 none (x ∷ xs) e = absurd (omega (arith, e))
 
-refused : (text out : List ℕ) → length out < length text → wholeOrNone text out ≡ []
+pub refused : (text out : List ℕ) → length out < length text → wholeOrNone text out ≡ []
 unfolding wholeOrNone
 refused text out h = rw (lt-leb (length text) (length out) h) refl
 
@@ -19,7 +23,7 @@ pub whole : (text out : List ℕ) → length text ≤ length out → wholeOrNone
 unfolding wholeOrNone
 whole text out h = rw (le-leb (length text) (length out) h) refl
 
-output-after : (text out text′ : List ℕ) → wholeOrNone text out ≡ text′ → outputAfter text out ≡ text′ ++ drop (length text′) out
+pub output-after : (text out text′ : List ℕ) → wholeOrNone text out ≡ text′ → outputAfter text out ≡ text′ ++ drop (length text′) out
 unfolding outputAfter
 output-after text out text′ e = rw e refl
 
@@ -47,3 +51,18 @@ module _ (text out part : List ℕ) (no-byte : length part ≡ 0) (n : ℕ) (cou
   fits h m out′ count′ put =
       has-room text out (omega (arith, h, ap length same, count)) m out′ count′
       (λ room. put (omega (arith, room, ap length same)) ∙ ap (λ (x : List ℕ). text ++ drop m x) same)
+
+put-same : (text out : List ℕ) → (fittingAt 0 text out ≡ wholeOrNone text out) × (placed 0 text out ≡ outputAfter text out)
+unfolding fittingAt placed outputAfter wholeOrNone
+put-same text out = rw zero-add (refl, go (leb (length text) (length out)))
+  where
+    go : (t : Bool) → cond t (text ++ drop (length text) out) out ≡ cond t text [] ++ drop (length (cond t text [])) out
+    go true = refl
+    go false = refl
+
+-- a text that is put over the first bytes, where it fits
+pub put-at-start : (text out : List ℕ) {n : ℕ} {out′ : List ℕ} → n ≡ length (fittingAt 0 text out) → out′ ≡ placed 0 text out
+    → (n ≡ length (wholeOrNone text out)) × (out′ ≡ outputAfter text out)
+put-at-start text out count bytes =
+    let same = put-same text out in
+    (count ∙ ap length (same .0), bytes ∙ same .1)

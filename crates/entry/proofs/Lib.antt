@@ -2,3 +2,4 @@
 mod Filling
 mod Fits
 mod Lines
+mod WordLaws

@@ -9,8 +9,8 @@ use lib.Dec.{eqb, leb}
 use lib.ListN.{length, take, drop, getD, length-take, length-drop, length-append, take-append-drop, drop-of-length-le}
 use lib.Seq.{drop-cons, drop-drop}
 use borrow.Author.Tests.{eq-eqb, ne-eqb, le-leb, lt-leb, leb-true, leb-false}
-use Rattle.script.specs.Pieces.{onto, pieces, withoutLastEmpty, lines}
-use Rattle.script.proofs.Laws.{some-piece}
+use Rattle.table.specs.Pieces.{onto, pieces, withoutLastEmpty, lines}
+use Rattle.table.proofs.Laws.{some-piece}
 use Rattle.runner.specs.Listing.{listing}
 use Rattle.runner.proofs.Bounds.{enough, enough-any, not-empty}
 use Rattle.entry.specs.Fitting.{wholeOrNone}

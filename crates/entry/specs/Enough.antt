@@ -4,7 +4,7 @@ use mathlib.Core.Path.{_≡_}
 use mathlib.Core.List.{List}
 use lib.ListN.{length}
 use Rattle.decimal.specs.Bytes.{byte}
-use Rattle.script.specs.Pieces.{pieces, lines}
+use Rattle.table.specs.Pieces.{pieces, lines}
 use Rattle.request.specs.Asks.{mostLines}
 use Rattle.runner.specs.Listing.{listing}
 

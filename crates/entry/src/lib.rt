@@ -1,5 +1,7 @@
-// The C entry: a script in, its listing out (include/cards.h). `cards_run` has no condition; `newlines` and `chunk_end` beneath it have
-// one each, on lengths.
+// The C entry (include/cards.h): a script in, its listing out; `sheets` has the functions on sheets. `cards_run` has no condition; `newlines`
+// and `chunk_end` beneath it have one each, on lengths.
+mod sheets;
+
 use runner::Reading;
 use runner::inside;
 ghost use mathlib.Core.Path.{_≡_};
@@ -9,7 +11,7 @@ ghost use Prim.Native.Nat.{_+_, _≤_, _<_};
 ghost use lib.Dec.{leb};
 ghost use lib.ListN.{length, drop};
 ghost use Rattle.decimal.specs.Bytes.{byte};
-ghost use Rattle.script.specs.Pieces.{pieces, lines};
+ghost use Rattle.table.specs.Pieces.{pieces, lines};
 ghost use Rattle.runner.specs.Listing.{listing};
 ghost use Rattle.runner.specs.Runs.{ScriptRuns};
 ghost use Rattle.entry.specs.Fitting.{wholeOrNone, outputAfter};
