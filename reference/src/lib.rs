@@ -4,11 +4,15 @@
 //! - the machine: `call`, `answer`, `refusal`, `set`, `record`, `sound`,
 //!   `calls`
 //! - the script program: `machine`, `script`, `frame`
+//! - job sheets, their groups and levels: `sheet`; `fields`, which scripts
+//!   share
 //! - whole runs judged from calls and answers: `checker`, `replay`,
 //!   `listed_runs`
-//! - single calls of a door compared with the machine's: `compared`
-//! - inputs by seed: `random`, `contended`, `scripts`, `choices`, `shrink`;
-//!   what they show of waits: `waiting`
+//! - single calls of a door compared with the machine's: `compared`; lists of
+//!   levels with the sheet's: `lists`
+//! - what the programs of such comparisons are told: `options`
+//! - inputs by seed: `random`, `contended`, `scripts`, `sheets`, `choices`,
+//!   `shrink`; what they show of waits: `waiting`
 //!
 //! The code says object for card, abort for setback and zombie for marked.
 
@@ -22,9 +26,12 @@ pub mod choices;
 pub mod compared;
 pub mod contended;
 mod fewest;
+pub mod fields;
 pub mod frame;
 pub mod listed_runs;
+pub mod lists;
 pub mod machine;
+pub mod options;
 pub mod random;
 pub mod record;
 pub mod refusal;
@@ -32,6 +39,8 @@ pub mod replay;
 pub mod script;
 pub mod scripts;
 pub mod set;
+pub mod sheet;
+pub mod sheets;
 pub mod shrink;
 pub mod sound;
 pub mod waiting;

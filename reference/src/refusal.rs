@@ -23,3 +23,5 @@ pub const NONE_IN_PROGRESS: u32 = 9;
 pub const TICKETS_SPENT: u32 = 10;
 /// The script line is malformed; no call is made.
 pub const MALFORMED_LINE: u32 = 11;
+/// The sheet breaks a rule, or the lent list is shorter than it.
+pub const BAD_SHEET: u32 = 13;

@@ -7,7 +7,7 @@ use crate::machine::Machine;
 use crate::random::Random;
 use crate::script::{print_call, MAX_LINES};
 
-mod spoil;
+pub(crate) mod spoil;
 
 /// The four names.
 const NAMES: [&str; 4] = ["call", "core", "card", "value"];

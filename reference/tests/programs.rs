@@ -3,12 +3,16 @@
 use cards_reference::choices::count_lines;
 use cards_reference::script::listing_of;
 use cards_reference::scripts::quick_script;
+use cards_reference::sheet::{MAX_BYTES, SHIPPED};
+use cards_reference::sheets::sheet;
 use std::io::Write;
 use std::process::{Command, Output, Stdio};
 
 const REFERENCE: &str = env!("CARGO_BIN_EXE_cards-reference");
+const LEVELS: &str = env!("CARGO_BIN_EXE_levels-reference");
 const COMPARE: &str = env!("CARGO_BIN_EXE_compare");
 const MAKE_SCRIPT: &str = env!("CARGO_BIN_EXE_make-script");
+const MAKE_SHEET: &str = env!("CARGO_BIN_EXE_make-sheet");
 const CHECK_RUN: &str = env!("CARGO_BIN_EXE_check-run");
 const CASE_A: &[u8] = include_bytes!("data/case_a.script");
 const CASE_A_LISTING: &[u8] = include_bytes!("data/case_a.listing");
@@ -36,6 +40,18 @@ fn cards_reference_prints_case_a() {
     let output = output(REFERENCE, &[], CASE_A);
     assert!(output.status.success());
     assert_eq!(output.stdout, CASE_A_LISTING);
+}
+
+#[test]
+fn levels_reference_prints_levels() {
+    let shipped = output(LEVELS, &[], SHIPPED);
+    assert!(shipped.status.success());
+    assert_eq!(text(&shipped), "1 6 6\n2 2 4\n3 3 4\n4 4 4\n5 1 6\n6 5 0\n");
+    for bad in [&b""[..], b"task core deadline cards\n", &[b'\n'; MAX_BYTES + 1]] {
+        let refused = output(LEVELS, &[], bad);
+        assert!(refused.status.success());
+        assert_eq!(text(&refused), "refused 13\n");
+    }
 }
 
 #[test]
@@ -175,6 +191,27 @@ fn compare_speaks_frames() {
 }
 
 #[test]
+fn compare_takes_sheets() {
+    let (status, text) = compare(&["--sheets", "--count", "100", LEVELS]);
+    assert_eq!((status, text.starts_with("compared 100 sheets (")), (Some(0), true), "{text}");
+    let (status, text) = compare(&["--sheets", "--pieces", "--count", "2", LEVELS]);
+    assert_eq!((status, text.starts_with("compared 2 sheets (")), (Some(0), true), "{text}");
+    let (status, text) = compare(&["--sheets", "--frames", LEVELS, "frames"]);
+    assert_eq!((status, text.starts_with("compared 1000 sheets (")), (Some(0), true), "{text}");
+    assert_eq!(compare(&["--sheets", "--quick", "cat"]).0, Some(2));
+}
+
+#[test]
+fn compare_shows_the_shortest_sheet() {
+    let command = "\"$0\" | sed 's/^/0/'";
+    let (status, text) = compare(&["--sheets", "--count", "50", "sh", "-c", command, LEVELS]);
+    assert_eq!(status, Some(1));
+    assert!(text.contains("\nshortest sheet, 0 bytes:\n"), "{text}");
+    let end = "levels of the reference:\n  refused 13\\n\nlevels of sh:\n  0refused 13\\n\n";
+    assert!(text.ends_with(end), "{text}");
+}
+
+#[test]
 fn make_script_makes_so_many_lines() {
     let script = output(MAKE_SCRIPT, &["10", "4", "64", "500"], b"");
     assert!(script.status.success());
@@ -183,6 +220,16 @@ fn make_script_makes_so_many_lines() {
     let listing = text(&output(REFERENCE, &[], &script.stdout));
     assert!(listing.contains(" waits ") && listing.contains(" setback -\n"), "{listing}");
     assert_eq!(output(MAKE_SCRIPT, &["1", "17", "64", "500"], b"").status.code(), Some(2));
+}
+
+#[test]
+fn make_sheet_makes_the_sheet_of_a_seed() {
+    let made = output(MAKE_SHEET, &["7"], b"");
+    assert!(made.status.success());
+    assert_eq!(made.stdout, sheet(7));
+    assert_eq!(output(MAKE_SHEET, &[], b"").status.code(), Some(2));
+    assert_eq!(output(MAKE_SHEET, &["7", "8"], b"").status.code(), Some(2));
+    assert_eq!(output(MAKE_SHEET, &["x"], b"").status.code(), Some(2));
 }
 
 fn check_listing(name: &str, listing: &str) -> Output {

@@ -1,6 +1,8 @@
 //! The reference run by a list of calls, as crates/bench_calls runs the machine: the lower four
 //! bits of a number say what is done, the rest is the core.
 
+pub mod sheet;
+
 use cards_reference::answer::Answer;
 use cards_reference::calls::setup;
 use cards_reference::record::Record;
@@ -36,7 +38,13 @@ fn number_of(answer: Answer) -> u32 {
 }
 
 /// One call; any other number, the soundness test alone.
-fn step(m: Record, call: u32, core: u32, committed: &mut [u32], pending: &mut [u32]) -> (Answer, Record) {
+fn step(
+    m: Record,
+    call: u32,
+    core: u32,
+    committed: &mut [u32],
+    pending: &mut [u32],
+) -> (Answer, Record) {
     match call {
         SETUP => setup(m.cores, m.objects, committed, pending),
         RELEASE => m.release(core, 7, 100),

@@ -9,36 +9,19 @@ mod door;
 use cards_reference::compared::faults::{faults, Wrong};
 use cards_reference::compared::judge::{Difference, Door, Judge};
 use cards_reference::compared::seeded::compare_seed;
+use cards_reference::options::{met, Options};
 use door::Linked;
 use std::process::ExitCode;
 use std::time::Instant;
 
 const USAGE: &str = "usage: compare-calls [--faults] [--seed S] [--count N]";
 
-struct Options {
-    faults: bool,
-    seed: u64,
-    count: u64,
-}
-
-fn options() -> Option<Options> {
-    let mut options = Options { faults: false, seed: 1, count: 100 };
-    let mut arguments = std::env::args().skip(1);
-    while let Some(argument) = arguments.next() {
-        match argument.as_str() {
-            "--faults" => options.faults = true,
-            "--seed" => options.seed = arguments.next()?.parse().ok()?,
-            "--count" => options.count = arguments.next()?.parse().ok()?,
-            _ => return None,
-        }
-    }
-    Some(options)
-}
+/// How many seeds are tried where nothing is said.
+const SEEDS: u64 = 100;
 
 /// The first difference in these seeds, and its seed.
 fn first_difference<D: Door>(judge: &mut Judge<D>, options: &Options) -> Option<(u64, Difference)> {
-    let mut seeds = options.seed..options.seed.saturating_add(options.count);
-    seeds.find_map(|seed| compare_seed(judge, seed).err().map(|difference| (seed, difference)))
+    options.seeds().find_map(|seed| compare_seed(judge, seed).err().map(|difference| (seed, difference)))
 }
 
 fn compare(options: &Options) -> bool {
@@ -48,16 +31,10 @@ fn compare(options: &Options) -> bool {
         println!("seed {seed} differs after {} calls, {difference}", judge.tally.calls);
         return false;
     }
-    let never = judge.tally.never_met();
-    for line in judge.tally.lines() {
-        println!("{line}");
-    }
-    for what in &never {
-        println!("never met: {what}");
-    }
+    let all = met(&judge.tally.lines(), &judge.tally.never_met());
     let seconds = start.elapsed().as_secs_f32();
     println!("compared {} calls in {seconds:.1} s, no difference", judge.tally.calls);
-    never.is_empty()
+    all
 }
 
 fn find_faults(options: &Options) -> bool {
@@ -75,7 +52,7 @@ fn find_faults(options: &Options) -> bool {
 }
 
 fn main() -> ExitCode {
-    let Some(options) = options() else {
+    let Some(options) = Options::given(SEEDS) else {
         eprintln!("{USAGE}");
         return ExitCode::from(2);
     };

@@ -115,7 +115,7 @@ fn with_byte(random: &mut Random, line: &[u8]) -> Vec<u8> {
 }
 
 /// A space too many, or a tab for a space.
-fn spaced(random: &mut Random, line: &[u8]) -> Vec<u8> {
+pub(crate) fn spaced(random: &mut Random, line: &[u8]) -> Vec<u8> {
     let text = String::from_utf8_lossy(line);
     match random.below(5) {
         0 => format!(" {text}"),

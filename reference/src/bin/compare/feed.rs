@@ -10,13 +10,13 @@ use std::time::{Duration, Instant};
 /// How long a piece waits for the reader at most.
 const PATIENCE: Duration = Duration::from_millis(20);
 
-/// Writes the script and closes the input. Before each further piece it waits
+/// Writes the bytes and closes the input. Before each further piece it waits
 /// until the reader has taken the last one and sleeps, so that each piece is a
 /// read of its own. A program may end before it has read everything, so a
 /// failed write is no failure here.
-pub fn feed(mut input: ChildStdin, script: &[u8], piece: Option<usize>, reader: u32) {
+pub fn feed(mut input: ChildStdin, bytes: &[u8], piece: Option<usize>, reader: u32) {
     let state = piece.and_then(|_| File::open(format!("/proc/{reader}/stat")).ok());
-    for part in script.chunks(piece.unwrap_or(usize::MAX)) {
+    for part in bytes.chunks(piece.unwrap_or(usize::MAX)) {
         if input.write_all(part).and_then(|()| input.flush()).is_err() {
             return;
         }

@@ -1,9 +1,8 @@
-//! A program that takes many scripts, one frame each, and answers each with a
+//! A program that takes many inputs, one frame each, and answers each with a
 //! frame.
 
-use crate::subject::{end_by, no_end, Subject, Told};
+use crate::subject::{end_by, no_end, Right, Subject, Told};
 use cards_reference::frame::{read_frame, write_frame};
-use cards_reference::script::listing_of;
 use std::io::{self, BufReader, BufWriter, Read, Write};
 use std::process::{Child, ChildStdin, ChildStdout, Command, Stdio};
 use std::sync::mpsc::{channel, Receiver, RecvTimeoutError, Sender};
@@ -15,6 +14,7 @@ const TO_END: Duration = Duration::from_secs(5);
 
 pub struct Frames {
     program: Vec<String>,
+    right: Right,
     limit: Duration,
     running: Option<Running>,
 }
@@ -22,19 +22,19 @@ pub struct Frames {
 /// A started program and the threads that write and read its frames.
 struct Running {
     child: Child,
-    scripts: Sender<Vec<u8>>,
-    listings: Receiver<Vec<u8>>,
+    inputs: Sender<Vec<u8>>,
+    answers: Receiver<Vec<u8>>,
 }
 
 impl Subject for Frames {
-    fn listing(&mut self, script: &[u8], _expected: usize) -> io::Result<Told> {
+    fn printed(&mut self, input: &[u8], _expected: usize) -> io::Result<Told> {
         let running = self.running()?;
         // A failed send shows as a missing answer.
-        let _ = running.scripts.send(script.to_vec());
-        Ok(match running.listings.recv_timeout(self.limit) {
-            Ok(listing) => {
+        let _ = running.inputs.send(input.to_vec());
+        Ok(match running.answers.recv_timeout(self.limit) {
+            Ok(answer) => {
                 self.running = Some(running);
-                Ok(listing)
+                Ok(answer)
             }
             Err(RecvTimeoutError::Timeout) => {
                 end(running, Duration::ZERO)?;
@@ -44,14 +44,18 @@ impl Subject for Frames {
         })
     }
 
-    /// All scripts are sent before the first answer is awaited, so that the
+    fn right(&self, input: &[u8]) -> Vec<u8> {
+        (self.right)(input)
+    }
+
+    /// All inputs are sent before the first answer is awaited, so that the
     /// program and the reference work side by side. Without an answer it is not
-    /// known which script is at fault; the rest are then given one by one.
-    fn first_difference(&mut self, scripts: &[Vec<u8>]) -> io::Result<Option<usize>> {
-        let together = if scripts.len() > 1 { self.together(scripts)? } else { Err(0) };
+    /// known which input is at fault; the rest are then given one by one.
+    fn first_difference(&mut self, inputs: &[Vec<u8>]) -> io::Result<Option<usize>> {
+        let together = if inputs.len() > 1 { self.together(inputs)? } else { Err(0) };
         match together {
             Ok(first) => Ok(first),
-            Err(agreed) => self.one_by_one(scripts, agreed),
+            Err(agreed) => self.one_by_one(inputs, agreed),
         }
     }
 
@@ -65,8 +69,8 @@ impl Subject for Frames {
 }
 
 impl Frames {
-    pub fn new(program: Vec<String>, limit: Duration) -> Frames {
-        Frames { program, limit, running: None }
+    pub fn new(program: Vec<String>, right: Right, limit: Duration) -> Frames {
+        Frames { program, right, limit, running: None }
     }
 
     fn running(&mut self) -> io::Result<Running> {
@@ -76,28 +80,28 @@ impl Frames {
         }
     }
 
-    /// The place of the first script on which the program does not agree; or,
+    /// The place of the first input on which the program does not agree; or,
     /// if an answer fails to come, the number of those on which it does.
-    fn together(&mut self, scripts: &[Vec<u8>]) -> io::Result<Result<Option<usize>, usize>> {
+    fn together(&mut self, inputs: &[Vec<u8>]) -> io::Result<Result<Option<usize>, usize>> {
         let running = self.running()?;
-        for script in scripts {
-            let _ = running.scripts.send(script.clone());
+        for input in inputs {
+            let _ = running.inputs.send(input.clone());
         }
-        for (place, script) in scripts.iter().enumerate() {
-            let expected = listing_of(script);
-            let listing = running.listings.recv_timeout(self.limit);
-            if listing.as_ref() != Ok(&expected) {
+        for (place, input) in inputs.iter().enumerate() {
+            let expected = self.right(input);
+            let answer = running.answers.recv_timeout(self.limit);
+            if answer.as_ref() != Ok(&expected) {
                 end(running, Duration::ZERO)?;
-                return Ok(if listing.is_ok() { Ok(Some(place)) } else { Err(place) });
+                return Ok(if answer.is_ok() { Ok(Some(place)) } else { Err(place) });
             }
         }
         self.running = Some(running);
         Ok(Ok(None))
     }
 
-    fn one_by_one(&mut self, scripts: &[Vec<u8>], from: usize) -> io::Result<Option<usize>> {
-        for (place, script) in scripts.iter().enumerate().skip(from) {
-            if !self.agrees(script)? {
+    fn one_by_one(&mut self, inputs: &[Vec<u8>], from: usize) -> io::Result<Option<usize>> {
+        for (place, input) in inputs.iter().enumerate().skip(from) {
+            if !self.agrees(input)? {
                 return Ok(Some(place));
             }
         }
@@ -118,20 +122,20 @@ fn start(program: &[String]) -> io::Result<Running> {
         .stdout(Stdio::piped())
         .stderr(Stdio::piped())
         .spawn()?;
-    let (scripts, to_write) = channel();
-    let (read, listings) = channel();
+    let (inputs, to_write) = channel();
+    let (read, answers) = channel();
     let input = child.stdin.take().expect("standard input is piped");
     let output = child.stdout.take().expect("standard output is piped");
     thread::spawn(move || write_frames(input, &to_write));
     thread::spawn(move || read_frames(output, &read));
-    Ok(Running { child, scripts, listings })
+    Ok(Running { child, inputs, answers })
 }
 
 /// Closes the program's input and gives it so long to end. Whether it ended
 /// well; how, with the last line that it wrote to standard error.
 fn end(running: Running, patience: Duration) -> io::Result<(bool, String)> {
-    let Running { mut child, scripts, .. } = running;
-    drop(scripts);
+    let Running { mut child, inputs, .. } = running;
+    drop(inputs);
     let errors = child.stderr.take();
     let Some(status) = end_by(&mut child, Instant::now() + patience)? else {
         return Ok((false, "no end after the end of its input".to_string()));
@@ -144,22 +148,22 @@ fn end(running: Running, patience: Duration) -> io::Result<(bool, String)> {
     Ok((status.success(), format!("ended with {status}: {said}")))
 }
 
-fn write_frames(input: ChildStdin, scripts: &Receiver<Vec<u8>>) -> io::Result<()> {
-    let mut input = BufWriter::new(input);
-    for script in scripts {
-        write_frame(&mut input, &script)?;
-        for script in scripts.try_iter() {
-            write_frame(&mut input, &script)?;
+fn write_frames(pipe: ChildStdin, inputs: &Receiver<Vec<u8>>) -> io::Result<()> {
+    let mut pipe = BufWriter::new(pipe);
+    for input in inputs {
+        write_frame(&mut pipe, &input)?;
+        for input in inputs.try_iter() {
+            write_frame(&mut pipe, &input)?;
         }
-        input.flush()?;
+        pipe.flush()?;
     }
     Ok(())
 }
 
-fn read_frames(output: ChildStdout, listings: &Sender<Vec<u8>>) -> io::Result<()> {
+fn read_frames(output: ChildStdout, answers: &Sender<Vec<u8>>) -> io::Result<()> {
     let mut output = BufReader::new(output);
-    while let Some(listing) = read_frame(&mut output)? {
-        if listings.send(listing).is_err() {
+    while let Some(answer) = read_frame(&mut output)? {
+        if answers.send(answer).is_err() {
             return Ok(());
         }
     }

@@ -1,13 +1,15 @@
-//! `compare [OPTIONS] PROGRAM [ARGS..]`: runs the program on scripts made by
-//! seed, those of the fewest lines first, and compares its listings with the
-//! reference's. At the first difference it prints a script of the fewest lines
-//! that show one and both listings, and ends with status 1. A program that does
-//! not end in time, or ends badly, differs too.
+//! `compare [OPTIONS] PROGRAM [ARGS..]`: runs the program on scripts (or, with
+//! `--sheets`, on sheets) made by seed, those of the fewest lines first, and
+//! compares what it prints with what the reference prints. At the first
+//! difference it prints an input of the fewest lines that show one and both
+//! answers, and ends with status 1. A program that does not end in time, or ends
+//! badly, differs too.
 
 #![forbid(unsafe_code)]
 
 mod feed;
 mod frames;
+mod kind;
 mod once;
 mod options;
 mod order;
@@ -19,39 +21,33 @@ use order::Seeded;
 use std::io;
 use std::process::ExitCode;
 
-/// Scripts longer than this are not fed in pieces.
-const PIECES_UP_TO: usize = 1_500;
-
-/// Piece sizes: 1 up to a little more than a line may have.
-const PIECE_SIZES: std::ops::RangeInclusive<usize> = 1..=66;
-
-/// Compares the scripts, each as a whole. Whether no difference is found.
+/// Compares the inputs, each as a whole. Whether no difference is found.
 fn compare_whole(options: &Options, ordered: &[Seeded]) -> io::Result<bool> {
     let mut subject = options.subject();
     for batch in order::batches(ordered) {
-        let scripts: Vec<Vec<u8>> =
-            batch.iter().map(|seeded| options.script(seeded.seed)).collect();
-        if let Some(place) = subject.first_difference(&scripts)? {
-            report::difference(options, batch[place].seed, &scripts[place])?;
+        let inputs: Vec<Vec<u8>> = batch.iter().map(|seeded| options.input(seeded.seed)).collect();
+        if let Some(place) = subject.first_difference(&inputs)? {
+            report::difference(options, batch[place].seed, &inputs[place])?;
             return Ok(false);
         }
     }
     if let Err(fault) = subject.finish()? {
-        println!("after the last script {}: {fault}", options.program[0]);
+        println!("after the last {} {}: {fault}", options.kind().input, options.program[0]);
         return Ok(false);
     }
     Ok(true)
 }
 
-/// Compares the scripts, each in pieces of every size. Whether no difference is
+/// Compares the inputs, each in pieces of every size. Whether no difference is
 /// found.
 fn compare_pieces(options: &mut Options, ordered: &[Seeded]) -> io::Result<bool> {
+    let kind = options.kind();
     for &Seeded { seed, .. } in ordered {
-        let script = options.script(seed);
-        for size in PIECE_SIZES {
+        let input = options.input(seed);
+        for size in (1..=kind.every_piece_to).chain(kind.pieces.iter().copied()) {
             options.piece = Some(size);
-            if !options.subject().agrees(&script)? {
-                report::difference(options, seed, &script)?;
+            if !options.subject().agrees(&input)? {
+                report::difference(options, seed, &input)?;
                 return Ok(false);
             }
         }
@@ -60,7 +56,8 @@ fn compare_pieces(options: &mut Options, ordered: &[Seeded]) -> io::Result<bool>
 }
 
 fn compare(options: &mut Options) -> io::Result<ExitCode> {
-    let most = if options.pieces { PIECES_UP_TO } else { usize::MAX };
+    let kind = options.kind();
+    let most = if options.pieces { kind.pieces_up_to } else { usize::MAX };
     let ordered = order::fewest_lines_first(options, most);
     let alike = match options.pieces {
         true => compare_pieces(options, &ordered)?,
@@ -70,7 +67,7 @@ fn compare(options: &mut Options) -> io::Result<ExitCode> {
         return Ok(ExitCode::from(1));
     }
     let lines: usize = ordered.iter().map(|seeded| seeded.lines).sum();
-    println!("compared {} scripts ({lines} lines), no difference", ordered.len());
+    println!("compared {} {}s ({lines} lines), no difference", ordered.len(), kind.input);
     Ok(ExitCode::SUCCESS)
 }
 

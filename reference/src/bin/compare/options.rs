@@ -1,29 +1,31 @@
 //! What the command line asks for.
 
 use crate::frames::Frames;
+use crate::kind::{Kind, QUICK_SCRIPTS, SCRIPTS, SHEETS};
 use crate::once::Once;
 use crate::subject::Subject;
-use cards_reference::scripts::{quick_script, script};
 use cards_reference::shrink::Budget;
 use std::time::Duration;
 
 pub const USAGE: &str = "usage: compare [--seed S] [--count N] [--limit SECONDS] [--trials T] \
-[--search SECONDS] [--quick] [--pieces | --frames] PROGRAM [ARGS..]";
+[--search SECONDS] [--quick | --sheets] [--pieces | --frames] PROGRAM [ARGS..]";
 
 pub struct Options {
     pub seed: u64,
     pub count: u64,
-    /// How long the program may take for one script.
+    /// How long the program may take for one input.
     pub limit: Duration,
     /// What the search for the fewest lines that differ may cost.
     pub budget: Budget,
     /// Most scripts are short.
     pub quick: bool,
+    /// Sheets are compared, not scripts.
+    pub sheets: bool,
     /// Standard input comes in pieces; scripts are short.
     pub pieces: bool,
     /// The size of the pieces, if standard input comes in pieces.
     pub piece: Option<usize>,
-    /// One process takes all scripts, in frames.
+    /// One process takes all inputs, in frames.
     pub frames: bool,
     pub program: Vec<String>,
 }
@@ -36,6 +38,7 @@ impl Options {
             limit: Duration::from_secs(10),
             budget: Budget::default(),
             quick: false,
+            sheets: false,
             pieces: false,
             piece: None,
             frames: false,
@@ -43,27 +46,39 @@ impl Options {
         }
     }
 
-    /// The script of this seed.
-    pub fn script(&self, seed: u64) -> Vec<u8> {
-        if self.quick || self.pieces {
-            quick_script(seed)
+    /// What is compared.
+    pub fn kind(&self) -> Kind {
+        if self.sheets {
+            SHEETS
+        } else if self.quick || self.pieces {
+            QUICK_SCRIPTS
         } else {
-            script(seed)
+            SCRIPTS
         }
     }
 
-    /// The program, ready for scripts.
+    /// The input of this seed.
+    pub fn input(&self, seed: u64) -> Vec<u8> {
+        (self.kind().made)(seed)
+    }
+
+    /// What the reference prints for an input.
+    pub fn right(&self, input: &[u8]) -> Vec<u8> {
+        (self.kind().right)(input)
+    }
+
+    /// The program, ready for inputs.
     pub fn subject(&self) -> Box<dyn Subject> {
         self.within(self.limit)
     }
 
-    /// The program, ready for scripts, with this limit.
+    /// The program, ready for inputs, with this limit.
     pub fn within(&self, limit: Duration) -> Box<dyn Subject> {
-        let program = self.program.clone();
+        let (program, right) = (self.program.clone(), self.kind().right);
         if self.frames {
-            Box::new(Frames::new(program, limit))
+            Box::new(Frames::new(program, right, limit))
         } else {
-            Box::new(Once { program, limit, piece: self.piece })
+            Box::new(Once { program, right, limit, piece: self.piece })
         }
     }
 }
@@ -79,13 +94,15 @@ pub fn options(mut arguments: impl Iterator<Item = String>) -> Option<Options> {
             "--trials" => options.budget.trials = Some(arguments.next()?.parse().ok()?),
             "--search" => options.budget.time = Some(seconds(arguments.next())?),
             "--quick" => options.quick = true,
+            "--sheets" => options.sheets = true,
             "--pieces" => options.pieces = true,
             "--frames" => options.frames = true,
             unknown if unknown.starts_with("--") => return None,
             _ => {
                 options.program = vec![argument];
                 options.program.extend(arguments);
-                return (!options.pieces || !options.frames).then_some(options);
+                let clash = options.pieces && options.frames || options.quick && options.sheets;
+                return (!clash).then_some(options);
             }
         }
     }

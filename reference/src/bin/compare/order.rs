@@ -1,17 +1,17 @@
-//! The order in which scripts are compared: the fewest lines first, so that no
-//! script of fewer lines differs than the first that does. A script is made
+//! The order in which inputs are compared: the fewest lines first, so that no
+//! input of fewer lines differs than the first that does. An input is made
 //! again when its turn comes; only its lines, bytes and seed are kept.
 
 use crate::options::Options;
 use cards_reference::choices::count_lines;
 
-/// Scripts are compared together, so many,
+/// Inputs are compared together, so many,
 const BATCH: usize = 256;
 
 /// or fewer once they have so many bytes.
 const BATCH_BYTES: usize = 1 << 20;
 
-/// A script's lines and bytes, and the seed that makes it.
+/// An input's lines and bytes, and the seed that makes it.
 #[derive(Clone, Copy, PartialEq, Eq, PartialOrd, Ord)]
 pub struct Seeded {
     pub lines: usize,
@@ -19,12 +19,12 @@ pub struct Seeded {
     bytes: usize,
 }
 
-/// So many scripts as asked for, of the seeds from the first one on, but none
+/// So many inputs as asked for, of the seeds from the first one on, but none
 /// of more bytes than `most`.
 pub fn fewest_lines_first(options: &Options, most: usize) -> Vec<Seeded> {
     let seeded = |seed| {
-        let script = options.script(seed);
-        Seeded { lines: count_lines(&script), seed, bytes: script.len() }
+        let input = options.input(seed);
+        Seeded { lines: count_lines(&input), seed, bytes: input.len() }
     };
     let count = usize::try_from(options.count).unwrap_or(usize::MAX);
     let fit = (options.seed..=u64::MAX).map(seeded).filter(|seeded| seeded.bytes <= most);
@@ -33,7 +33,7 @@ pub fn fewest_lines_first(options: &Options, most: usize) -> Vec<Seeded> {
     ordered
 }
 
-/// The scripts in stretches that are compared together.
+/// The inputs in stretches that are compared together.
 pub fn batches(mut ordered: &[Seeded]) -> impl Iterator<Item = &[Seeded]> {
     std::iter::from_fn(move || {
         let mut bytes = 0;

@@ -1,6 +1,5 @@
 //! The program under test.
 
-use cards_reference::script::listing_of;
 use std::io;
 use std::process::{Child, ExitStatus};
 use std::thread;
@@ -9,26 +8,31 @@ use std::time::{Duration, Instant};
 /// Output is read up to this much more than what is expected.
 const READ_BEYOND: usize = 1 << 16;
 
-/// The listing, or in words what the program did in place of giving one.
+/// What was printed, or in words what the program did in place of that.
 pub type Told = Result<Vec<u8>, String>;
 
-/// A program that is given scripts.
-pub trait Subject {
-    /// What it makes of a script whose listing should have so many bytes. An
-    /// error says that it could not be started.
-    fn listing(&mut self, script: &[u8], expected: usize) -> io::Result<Told>;
+/// What must be printed for an input.
+pub type Right = fn(&[u8]) -> Vec<u8>;
 
-    /// Whether its listing of the script is the reference's.
-    fn agrees(&mut self, script: &[u8]) -> io::Result<bool> {
-        let expected = listing_of(script);
-        Ok(self.listing(script, expected.len())? == Ok(expected))
+/// A program that is given inputs.
+pub trait Subject {
+    /// What it prints for an input, for which so many bytes are expected. An
+    /// error says that it could not be started.
+    fn printed(&mut self, input: &[u8], expected: usize) -> io::Result<Told>;
+
+    /// What it must print for an input.
+    fn right(&self, input: &[u8]) -> Vec<u8>;
+
+    /// Whether it prints what it must.
+    fn agrees(&mut self, input: &[u8]) -> io::Result<bool> {
+        let right = self.right(input);
+        Ok(self.printed(input, right.len())? == Ok(right))
     }
 
-    /// The place of the first script on which it does not agree.
-    fn first_difference(&mut self, scripts: &[Vec<u8>]) -> io::Result<Option<usize>>;
+    /// The place of the first input on which it does not agree.
+    fn first_difference(&mut self, inputs: &[Vec<u8>]) -> io::Result<Option<usize>>;
 
-    /// Ends a program that takes many scripts; says what was wrong with its
-    /// end.
+    /// Ends a program that takes many inputs; says what was wrong with its end.
     fn finish(&mut self) -> io::Result<Result<(), String>> {
         Ok(Ok(()))
     }
