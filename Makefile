@@ -1,11 +1,16 @@
 # Two commands: `make run` runs the main job, `make test` is the whole test.
 
-.PHONY: run test lib host peer fuzz soak guards bench clean
+.PHONY: run levels test lib host peer fuzz soak guards bench clean
 
 # proves and builds `cards` (minutes the first time, nothing after that) and runs it on case A of document 01
 run:
 	@tests/build.sh cards
 	@target/bin/cards < examples/case-a.script
+
+# proves and builds `levels` and runs it on the sheet that the kit ships with
+levels:
+	@tests/build.sh levels
+	@target/bin/levels < examples/table-6.1.sheet
 
 test:
 	@tests/run.sh
@@ -41,6 +46,7 @@ guards:
 bench:
 	@bench/calls.sh
 	@bench/script.sh
+	@bench/sheet.sh
 
 clean:
 	rm -rf target build reference/target bench/reference/target

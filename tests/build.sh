@@ -1,6 +1,7 @@
 #!/usr/bin/env bash
 # build.sh WHAT..: builds each, unless what it is made of and what was made are, byte for byte, as the last build left them:
-#   cards   target/bin/cards, proved      lib   build/libcards.a, proved      host   build/cards_host, over lib
+#   cards   target/bin/cards, proved      levels   target/bin/levels, proved
+#   lib   build/libcards.a, proved        host   build/cards_host, over lib
 # Says on standard error what it does before it starts and what it wrote; where it fails, the lines with the error and the log.
 set -u
 cd "$(dirname "$0")/.."
@@ -20,21 +21,26 @@ crates() {
 state() {
   {
     case $1 in
-      cards | lib) rt version ;;
+      cards | levels | lib) rt version ;;
       host) gcc --version ;;
     esac
     case $1 in
-      cards) crates cards; echo target/bin/cards ;;
+      cards | levels) crates "$1"; echo "target/bin/$1" ;;
       lib) crates entry; echo build/libcards.a ;;
       host) printf '%s\n' host/* include/cards.h build/libcards.a build/cards_host build/cards_host_checked ;;
     esac | sort | tr '\n' '\0' | xargs -0 sha256sum 2> /dev/null
   } | sha256sum
 }
 
-make_cards() {
-  [ -e target/bin/cards ] || rm -f target/stamp/cards # rt goes by its stamp alone
-  rt check cards && [ -x target/bin/cards ]
+# program NAME: target/bin/NAME
+program() {
+  [ -e "target/bin/$1" ] || rm -f "target/stamp/$1" # rt goes by its stamp alone
+  rt check "$1" && [ -x "target/bin/$1" ]
 }
+
+make_cards() { program cards; }
+
+make_levels() { program levels; }
 
 make_lib() { rt staticlib entry && cp target/staticlib/libentry.a build/libcards.a; }
 
@@ -68,9 +74,9 @@ proving="is proved and built first, which takes some minutes (seconds where litt
 mkdir -p build || exit 1
 for what in "$@"; do
   case $what in
-    cards) build cards target/bin/cards "$proving" rt || exit 1 ;;
+    cards | levels) build "$what" "target/bin/$what" "$proving" rt || exit 1 ;;
     lib) build lib build/libcards.a "$proving" rt || exit 1 ;;
     host) build host build/cards_host "is compiled" gcc || exit 1 ;;
-    *) echo "usage: tests/build.sh cards|lib|host.." >&2; exit 2 ;;
+    *) echo "usage: tests/build.sh cards|levels|lib|host.." >&2; exit 2 ;;
   esac
 done

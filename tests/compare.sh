@@ -5,6 +5,7 @@ cd "$(dirname "$0")/.."
 bin=reference/target/release
 cargo build --quiet --release --offline --manifest-path reference/Cargo.toml || { echo "0 passed, 1 failed"; exit 1; }
 cards=target/bin/cards
+levels=target/bin/levels
 host=build/cards_host
 peer=build/cards_peer
 calls=reference/target/calls/release/compare-calls
@@ -110,31 +111,31 @@ stops() {
   yes x 2> /dev/null | timeout 10 "$1" > "$work/listing" && printf 'line answer value\n1 refused 11\n' | cmp - "$work/listing"
 }
 
-# the runs in docs/MANUAL.md are what the program prints: the script stands left of the bar, the listing right of it
+# manual_runs KIND PROGRAM COUNT: the blocks of this kind in docs/MANUAL.md, at least so many, are what the program prints: its input stands
+# left of the bar, what it prints right of it, where a line with nothing right of the bar has none
 manual_runs() {
-  local script count=0
+  local input count=0
   rm -f "$work"/manual-*
-  awk -v dir="$work" '
-    /^```run$/ { n++; on = 1; next }
+  awk -v dir="$work" -v kind="\`\`\`$1" '
+    $0 == kind { n++; on = 1; next }
     /^```$/ { on = 0 }
     on {
       bar = index($0, "|"); line = substr($0, 1, bar - 1); sub(/ +$/, "", line)
-      print line > (dir "/manual-" n ".script"); print substr($0, bar + 2) > (dir "/manual-" n ".listing")
+      print line > (dir "/manual-" n ".input")
+      if (length($0) > bar) print substr($0, bar + 2) > (dir "/manual-" n ".printed")
     }' docs/MANUAL.md
-  for script in "$work"/manual-*.script; do
-    "$cards" < "$script" | cmp - "${script%.script}.listing" || return 1
+  for input in "$work"/manual-*.input; do
+    "$2" < "$input" | cmp - "${input%.input}.printed" || return 1
     count=$((count + 1))
   done
-  [ "$count" -ge 7 ]
+  [ "$count" -ge "$3" ]
 }
 
 # the calls of Machine behind an exported door, linked with the reference: an archive of its own
 calls_built() {
-  rm -f "$calls"
   mkdir -p build
   rt staticlib calls_door > build/calls_door.log 2>&1 || { tail -20 build/calls_door.log; return 1; }
-  CALLS_DOOR=$PWD/target/staticlib/libcalls_door.a cargo build --quiet --release --offline \
-    --manifest-path reference/calls/Cargo.toml --target-dir reference/target/calls
+  tests/linked.sh calls target/staticlib/libcalls_door.a
 }
 
 # nothing of that door is in what is delivered
@@ -165,7 +166,8 @@ check "cards, input in pieces" compares --pieces --seed 1 --count 100 "$cards"
 check "cards, a million lines" by_the_million by_cards
 check "cards, constant memory" streams "$cards"
 check "cards, an input without end" stops "$cards"
-check "the runs of the manual" manual_runs
+check "the runs of the manual" manual_runs run "$cards" 7
+check "the sheets of the manual" manual_runs levels "$levels" 3
 check "claims on runs of cards" claims_hold_on_cards
 
 check "calls: the door, built" calls_built

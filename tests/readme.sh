@@ -1,7 +1,7 @@
 #!/usr/bin/env bash
 # readme.sh [FILE]: README's C program (the first block ```c of 'From C') compiles as C99 and C++ and by README's own line, with every
-# warning an error, and prints the block ```text below it; include/cards.h and the archive are as the header says. Ends in 'N passed, M
-# failed'.
+# warning an error, and prints the block ```text below it; the header's own examples do what it says; include/cards.h and the archive are
+# as the header says. Ends in 'N passed, M failed'.
 set -u
 readme=$(realpath "${1:-$(dirname "$0")/../README.md}")
 cd "$(dirname "$0")/.."
@@ -46,6 +46,26 @@ header_is_clean() {
   ! command -v g++ > /dev/null || g++ -std=c++11 -pedantic $strict -fsyntax-only -x c++ "$work/header.c"
 }
 
+# the examples of the header, each from its static text to the call of what a caller has: they do what the indented lines below say
+header_examples() {
+  {
+    printf '%s\n' '#include "cards.h"' '#include <stdio.h>' \
+      'static void uart_write(const uint8_t *bytes, size_t length) { fwrite(bytes, 1, length, stdout); }' \
+      'static void set_levels(unsigned task, unsigned level, unsigned transaction) { printf("%u %u %u\n", task, level, transaction); }'
+    awk '
+      /^ \*     static const char/ { on = 1; print "static void example" ++n "(void) {" }
+      on { print substr($0, 3) }
+      on && /uart_write\(|set_levels\(/ { on = 0; print "}" }
+      END { printf "int main(void) {"; for (i = 1; i <= n; i++) printf " example%d();", i; print " return 0; }" }' include/cards.h
+  } > "$work/examples.c"
+  awk '
+    / \*     (uart_write|for .* set_levels)\(/ { here = 1; next }
+    here && /^ \*     / { print substr($0, 8); on = 1; next }
+    on { here = on = 0 }' include/cards.h > "$work/done"
+  [ "$(wc -l < "$work/done")" -eq 12 ] || { echo "not two examples with six lines each:"; cat "$work/done"; return 1; }
+  gcc -std=c99 $strict "$work/examples.c" build/libcards.a -o "$work/examples" && "$work/examples" | diff "$work/done" -
+}
+
 # the archive uses no vector register but those of SSE, no floating point, no segment register and no operating system
 only_sse() {
   objdump -d --no-show-raw-insn build/libcards.a > "$work/code" && grep -q '<cards_run>' "$work/code" || return 1
@@ -58,6 +78,7 @@ check "as C99" as_c
 if command -v g++ > /dev/null; then check "as C++" as_cpp; else echo "no g++ here: README's program is not compiled as C++"; fi
 check "by README's line" by_its_line
 check "the header, C99 and C++" header_is_clean
+check "the header's examples" header_examples
 if command -v objdump > /dev/null; then check "the archive's registers" only_sse; else echo "no objdump here"; fi
 
 counts

@@ -43,7 +43,9 @@ part "names" tests/names.sh
 part "documents (docs/TRACE.md)" tests/trace.sh
 part "second implementation (reference/)" cargo test --quiet --release --offline --manifest-path reference/Cargo.toml
 part "comparisons" tests/compare.sh
+part "sheets" tests/sheets.sh
 part "timelines" tests/timeline.sh
+part "sheets and the pictures of their groups" tests/groups.sh
 part "README's C program, the header" tests/readme.sh
 part "what is said to who uses it wrongly" tests/usage.sh
 

@@ -3,6 +3,7 @@
 set -u
 cd "$(dirname "$0")/.."
 . tests/count.sh
+. tests/svg.sh
 
 text() { sh docs/timeline.sh "$@"; }
 picture() { sh docs/timeline-svg.sh "$@"; }
@@ -30,39 +31,9 @@ true_to() {
     { print $1, said }' | diff <(tail -n +2 "$1.listing") -
 }
 
-# well_formed: standard input has one root, and each element that is opened is closed in its order; no stray < or &
-well_formed() {
-  awk '
-    { all = all $0 "\n" }
-    END {
-      while (match(all, /<[^<>]*>/)) {
-        before = substr(all, 1, RSTART - 1)
-        tag = substr(all, RSTART + 1, RLENGTH - 2)
-        all = substr(all, RSTART + RLENGTH)
-        gsub(/&(amp|lt|gt);/, "", before)
-        if (before ~ /[<>&]/ || depth == 0 && before ~ /[^ \n]/) bad = 1
-        if (tag ~ /^\//) { if (depth == 0 || open[depth--] != substr(tag, 2)) bad = 1; if (depth == 0) roots++; continue }
-        name = tag
-        sub(/[ \/].*/, "", name)
-        rest = substr(tag, length(name) + 1)
-        closed = sub(/\/$/, "", rest)
-        gsub(/ [A-Za-z:]+="[^"<&]*"/, "", rest)
-        if (rest ~ /[^ ]/ || name !~ /^[a-z]+$/) bad = 1
-        if (!closed) open[++depth] = name
-        else if (depth == 0) roots++
-      }
-      exit bad || depth || roots != 1 || all ~ /[^ \n]/
-    }' "$1" || return 1
-  if command -v python3 > /dev/null; then
-    python3 -c 'import sys, xml.dom.minidom; xml.dom.minidom.parse(sys.argv[1])' "$1" || return 1
-  fi
-}
-
-# drawn EXAMPLE: its picture is well formed, has a title and a size, nothing from elsewhere, and says as often as the text what it says
+# drawn EXAMPLE: its picture stands by itself, and says as often as the text what it says
 drawn() {
-  picture "$1.script" "$1.listing" > "$work/svg" && well_formed "$work/svg" || return 1
-  grep -q '<title>' "$work/svg" && grep -q 'viewBox="0 0 ' "$work/svg" || return 1
-  ! grep -qE 'href|url\(|@import|@font-face' "$work/svg" || return 1
+  picture "$1.script" "$1.listing" > "$work/svg" && by_itself "$work/svg" || return 1
   local word
   for word in 'WAITS behind core [0-9]*' 'SET BACK' COMMITS 'GIVES UP' ENDS REFUSED; do
     [ "$(text "$1.script" "$1.listing" | grep -o "$word" | wc -l)" -eq "$(grep -o "$word" "$work/svg" | wc -l)" ] || return 1

@@ -29,9 +29,21 @@ path_without() {
 
 # nothing has changed: no build does anything
 unchanged() {
-  tests/build.sh cards lib host > "$work/out" 2> "$work/error" && [ ! -s "$work/out" ] || return 1
-  printf '%s: nothing has changed since it was made\n' target/bin/cards build/libcards.a build/cards_host | diff - "$work/error"
+  tests/build.sh cards levels lib host > "$work/out" 2> "$work/error" && [ ! -s "$work/out" ] || return 1
+  printf '%s: nothing has changed since it was made\n' target/bin/cards target/bin/levels build/libcards.a build/cards_host |
+    diff - "$work/error"
 }
+
+# fails PATTERN COMMAND..: nothing on standard output and one line on standard error, which the pattern matches whole
+fails() {
+  "${@:2}" > "$work/out" 2> "$work/error"
+  [ ! -s "$work/out" ] && [ "$(wc -l < "$work/error")" -eq 1 ] && grep -qxE "$1" "$work/error" ||
+    { echo "${*:2} says:"; cat "$work/out" "$work/error"; return 1; }
+}
+
+# unread PROGRAM: standard input is a folder; unwritten PROGRAM: standard output is full
+unread() { "$1" < /; }
+unwritten() { "$1" < examples/table-6.1.sheet > /dev/full; }
 
 # told LINE..: what the build of a copy with a stand-in for rt says, each line cut at its first bracket or comma
 told() { PATH=$work/stand-in:$PATH "$work/copy/tests/build.sh" cards 2>&1 | sed 's/[(,].*//; s/ *$//' | diff <(printf '%s\n' "$@") -; }
@@ -57,12 +69,20 @@ build_tells() {
   told "$first" "target/bin/cards is written" && rm "$work/copy/target/bin/cards" && told "$first" "target/bin/cards is written"
 }
 
-tests/build.sh cards lib host 2> "$work/error" || { cat "$work/error"; echo "0 passed, 1 failed"; exit 1; }
+tests/build.sh cards levels lib host 2> "$work/error" || { cat "$work/error"; echo "0 passed, 1 failed"; exit 1; }
 usage='cards: usage: cards < SCRIPT > LISTING'
 check "cards with an argument" says "$usage" target/bin/cards x
 check "cards with a file's name" says "$usage" target/bin/cards examples/case-a.script
 check "cards with an empty argument" says "$usage" target/bin/cards ""
 check "cards with many arguments" says "$usage" target/bin/cards 1 2 3 --help
+usage='levels: usage: levels < SHEET > LEVELS'
+check "levels with an argument" says "$usage" target/bin/levels x
+check "levels with a file's name" says "$usage" target/bin/levels examples/table-6.1.sheet
+check "levels with an empty argument" says "$usage" target/bin/levels ""
+check "levels with many arguments" says "$usage" target/bin/levels 1 2 3 --help
+check "levels: a read that fails" fails 'levels: read: .+' unread target/bin/levels
+check "levels: a write that fails" fails 'levels: write: .+' unwritten target/bin/levels
+check "cards: a write that fails" fails 'cards: write: .+' unwritten target/bin/cards
 for seed in x -1 007 1.5 ' ' 1234567890123456789; do
   check "fuzz: seed '$seed'" refuses "SEED is a number .* not '$seed'; usage: make fuzz .*" tests/fuzz.sh "$seed" 1
 done
@@ -73,6 +93,7 @@ check "build: another word" refuses 'usage: .*' tests/build.sh x
 without_rt=$(path_without rt)
 without_gcc=$(path_without gcc)
 check "build cards without rt" refuses 'missing tool: rt .*' env PATH="$without_rt" tests/build.sh cards
+check "build levels without rt" refuses 'missing tool: rt .*' env PATH="$without_rt" tests/build.sh levels
 check "build lib without rt" refuses 'missing tool: rt .*' env PATH="$without_rt" tests/build.sh lib
 check "build host without gcc" refuses 'missing tool: gcc .*' env PATH="$without_gcc" tests/build.sh host
 check "what a build tells" build_tells

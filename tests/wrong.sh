@@ -13,37 +13,16 @@ options=("$@")
 case " $* " in *" --frames "*) mode=(frames) ;; *) mode=() ;; esac
 work=$(mktemp -d)
 trap 'rm -rf "$work"' EXIT
+. tests/copies.sh
 cargo build --quiet --release --offline --manifest-path reference/Cargo.toml
 unsure=0
 
 # wrong NAME FILE EDIT [FILE EDIT]..: a copy in which sed has edited files of src/, compared
 wrong() {
-  local name=$1 copy=$work/copy
-  shift
-  rm -rf "$copy"
-  mkdir "$copy"
-  cp -r reference/Cargo.toml reference/Cargo.lock reference/src "$copy"
-  sed -i '/^    ("/{/counts in range/!d}; s/\[Rule; 12\]/[Rule; 1]/' "$copy/src/sound.rs"
-  while [ $# -gt 0 ]; do
-    sed -i "$2" "$copy/src/$1"
-    ! cmp -s "reference/src/$1" "$copy/src/$1" || { echo "$name: nothing is altered in $1"; exit 1; }
-    shift 2
-  done
-  RUSTFLAGS=-Awarnings cargo build --quiet --release --offline --manifest-path "$copy/Cargo.toml" --target-dir "$work/target" \
-    --bin cards-reference
-  reference/target/release/compare --seed "$seed" --count "$count" "${options[@]}" \
-    "$work/target/release/cards-reference" "${mode[@]}" > "$work/report" || true
-  awk -v name="$name" '
-    / differs, a script of / { lines = $(NF - 1) }
-    /^shortest script, / { script = 1; left = 0; next }
-    script && /^  / { left++; next }
-    script { script = 0 }
-    /^fewest: every smaller choice was tried$/ { sure = "sure" }
-    /^found / { sure = "not sure" }
-    /^choices tried: / { tried = $3; seconds = $5 }
-    /no difference$/ { sure = "no difference" }
-    END { printf "| %s | %s | %s | %s | %s | %s |\n", name, lines, left, tried, seconds, sure; exit sure != "sure" }
-  ' "$work/report" || unsure=$((unsure + 1))
+  altered "$@"
+  sed -i '/^    ("/{/counts in range/!d}; s/\[Rule; 12\]/[Rule; 1]/' "$work/copy/src/sound.rs"
+  built cards-reference
+  found "$1" --seed "$seed" --count "$count" "${options[@]}" "$work/target/release/cards-reference" "${mode[@]}" || unsure=$((unsure + 1))
 }
 
 commit=calls/commit.rs
@@ -79,6 +58,6 @@ wrong "the last of equal deadlines runs" record.rs 's/(0..jobs.len()).min_by_key
 wrong "a job takes over from a transaction" record.rs 's/if self.in_progress/if false/'
 wrong "setup keeps the committed values" calls/setup.rs '/committed.fill(0);/d'
 wrong "a job number over 65,535 is let through" script/parse.rs 's/number(field)?.try_into().ok()/Some(number(field)? as u16)/'
-wrong "a leading zero is let through" script/parse.rs 's/leading_zero || //'
+wrong "a leading zero is let through" fields.rs 's/leading_zero || //'
 
 [ "$unsure" -eq 0 ] || { echo "not sure: $unsure"; exit 1; }

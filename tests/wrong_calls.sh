@@ -9,20 +9,18 @@ seed=${1:-1}
 count=${2:-200}
 work=$(mktemp -d)
 trap 'rm -rf "$work"' EXIT
+. tests/copies.sh
 mkdir -p build
 rt staticlib calls_door > build/calls_door.log 2>&1 || { tail -20 build/calls_door.log; exit 1; }
 alike=0
 
 # wrong NAME FILE EDIT: a copy in which sed has edited a file of src/, compared
 wrong() {
-  local name=$1 copy=$work/copy
-  rm -rf "$copy"
-  mkdir "$copy"
-  cp -r reference/Cargo.toml reference/Cargo.lock reference/src reference/calls "$copy"
-  sed -i "$3" "$copy/src/$2"
-  ! cmp -s "reference/src/$2" "$copy/src/$2" || { echo "$name: nothing is altered in $2"; exit 1; }
-  CALLS_DOOR=$PWD/target/staticlib/libcalls_door.a RUSTFLAGS=-Awarnings cargo build --quiet --release --offline \
-    --manifest-path "$copy/calls/Cargo.toml" --target-dir "$work/target"
+  local name=$1
+  altered "$@"
+  cp -r reference/calls "$work/copy"
+  ARCHIVE=$PWD/target/staticlib/libcalls_door.a RUSTFLAGS=-Awarnings cargo build --quiet --release --offline \
+    --manifest-path "$work/copy/calls/Cargo.toml" --target-dir "$work/target"
   "$work/target/release/compare-calls" --seed "$seed" --count "$count" > "$work/report" || true
   sed -nE "s/^seed [0-9]+ differs after ([0-9]+) calls, ([^:]*): ([A-Za-z]+).*/| $name | \1 | \3, \2 |/p" "$work/report" > "$work/row"
   [ -s "$work/row" ] || { echo "| $name | - | no difference |" > "$work/row"; alike=$((alike + 1)); }
