@@ -1,20 +1,6 @@
 # What docs/timeline.sh and docs/timeline-svg.sh share: reads a listing, then its script, and writes the run in the form `text` or
-# `svg`. A stretch begins at each setup and has the cores of its machine; before the first setup and after a refused one there is none.
-
-function bad(text) {
-    print "timeline: " text | "cat 1>&2"
-    failed = 1
-    exit 1
-}
-
-function plural(n, word) { return n " " word (n == 1 ? "" : "s") }
-
-# The line as it stands, at most so many bytes of it, and ? for a byte that cannot be printed.
-function quoted(line, most) {
-    if (length(line) > most) line = substr(line, 1, most) ".."
-    gsub(/[^ -~]/, "?", line)
-    return "\"" line "\""
-}
+# `svg`, with docs/picture.awk. A stretch begins at each setup and has the cores of its machine; before the first setup and after a
+# refused one there is none.
 
 function refusal(n) { return "REFUSED " n " (" (n in why ? why[n] : "?") ")" }
 
@@ -69,6 +55,7 @@ function setup_ends(    c, some) {
 }
 
 BEGIN {
+    called = "timeline"
     split("1 1 to 16 cores, 1 to 64 cards|2 no machine|4 no such core|5 no such card|6 has 8 jobs|7 no job|8 in progress|" \
           "9 none in progress|10 no ticket left|11 not a call", pieces, "|")
     for (i in pieces) {
@@ -208,23 +195,6 @@ function table(    s, e, c, n, row, wide, margin, some) {
 
 # ---- as a picture: rows of 24 units, letters about 7 units wide; below all the lines under headings, then bars, then marks and words
 
-function escaped(text) {
-    gsub(/[^ -~]/, "?", text)
-    gsub(/&/, "\\&amp;", text)
-    gsub(/</, "\\&lt;", text)
-    gsub(/>/, "\\&gt;", text)
-    return text
-}
-
-function words(x, y, text, bold) {
-    if (text == "") return ""
-    return "<text x=\"" x "\" y=\"" y + 4 "\"" (bold ? " class=\"b\"" : "") ">" escaped(text) "</text>"
-}
-
-function draw(d, class) { return "<path d=\"" d "\"" (class ? " class=\"" class "\"" : "") "/>" }
-
-function disc(x, y, r, class) { return "<circle cx=\"" x "\" cy=\"" y "\" r=\"" r "\"" (class ? " class=\"" class "\"" : "") "/>" }
-
 function bar(x, from, to) { return "<rect x=\"" x - 5 "\" y=\"" from "\" width=\"10\" height=\"" to - from "\" class=\"bar\"/>" }
 
 function diamond(x, y) { return "M" x - 6 " " y "L" x " " y - 6 "L" x + 6 " " y "L" x " " y + 6 "Z" }
@@ -335,16 +305,8 @@ function picture(    s, i) {
     for (s = 1; s <= stretches; s++) if (last[s]) picture_of(s)
     legend()
     y += 20
-    title = escaped("Timeline of " title)
-    print "<svg xmlns=\"http://www.w3.org/2000/svg\" viewBox=\"0 0 " width " " y "\" width=\"" width "\" height=\"" y "\" role=\"img\">"
-    print "<title>" title "</title>"
-    print "<style>"
-    print "text { font-family: monospace; font-size: 12px; fill: black; stroke: none } .b { font-weight: bold }"
-    print "path, circle, rect { fill: white; stroke: black; stroke-width: 1.5 } .solid { fill: black } .bar { fill: #ddd }"
-    print ".thick { fill: none; stroke-width: 3 } .tick { fill: none; stroke: white; stroke-width: 2 } .page { stroke: none }"
-    print ".dash { fill: none; stroke-dasharray: 4 3 }"
-    print "</style>"
-    print "<rect width=\"" width "\" height=\"" y "\" class=\"page\"/>"
+    title = "Timeline of " title
+    open_picture(title, width, y)
     print words(10, 18, title "; time runs downwards")
     for (i = 1; i <= rules; i++) print draw("M10 " rule[i] "H" width - 10)
     for (i = 1; i <= unders; i++) printf "%s", under[i]

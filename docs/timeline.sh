@@ -16,4 +16,4 @@ done
 case $1 in */*) script=$1 ;; *) script=./$1 ;; esac
 case $2 in */*) listing=$2 ;; *) listing=./$2 ;; esac
 LC_ALL=C exec awk -v form="${form:-text}" -v title="$(basename "$1" .script | tr -c '[:alnum:]._\n-' '?')" \
-    -f "$(dirname "$0")/timeline.awk" part=listing "$listing" part=script "$script"
+    -f "$(dirname "$0")/picture.awk" -f "$(dirname "$0")/timeline.awk" part=listing "$listing" part=script "$script"
