@@ -40,6 +40,7 @@ part "what each edit makes wrong, judged by its log" tests/edits.sh
 part "edits across crates" tests/knots.sh
 part "layout (rt fmt --check)" counted rt fmt --check
 part "names" tests/names.sh
+part "no table of marks" tests/marks.sh
 part "documents (docs/TRACE.md)" tests/trace.sh
 part "second implementation (reference/)" cargo test --quiet --release --offline --manifest-path reference/Cargo.toml
 part "comparisons" tests/compare.sh

@@ -1,16 +1,16 @@
 -- The bitwise operators on 64-bit words are the definitions by membership.
 use mathlib.Core.Path.{_≡_, refl, sym, ap, ap₂, _∙_, subst}
-use mathlib.Core.Bool.{Bool, true, false, not, _&&_, _||_, true≢false}
+use mathlib.Core.Bool.{Bool, true, false, cond, not, _&&_, _||_, true≢false}
 use Prim.Native.Nat.{ℕ, zero, suc, _*_, _%_, _^_, _≤_, _<_}
 use native.Mathlib.Omega.{arith}
 use native.Mathlib.Nat.{lt-of-lt-of-le, le-of-lt, one-mul, mod-eq-of-lt}
-use lib.Bits.{bitAnd, bitOr, and-lt, or-lt}
+use lib.Bits.{bitAnd, bitOr, and-lt, or-lt, or-zero-r}
 use lib.Dec.{eqb, ltb}
 use lib.Pow.{pow-lt, pow-mono}
 use borrow.Author.Tests.{lt-ltb, le-ltb, ltb-true, ltb-false, eqb-false, eq-eqb, ne-eqb}
-use Rattle.objset.specs.Objset.{has, collect, added, joined, meeting, below}
+use Rattle.objset.specs.Objset.{has, collect, maskOf, added, joined, meeting, below}
 use Rattle.objset.proofs.Digits.{has-or, has-and, has-mask, has-zero, has-past, collect-fits, has-collect, same-digits}
-use Rattle.objset.proofs.Laws.{same-members, has-added, has-joined, added-fits, joined-fits, meeting-one, one-meeting, below-member, member-below, member-bound}
+use Rattle.objset.proofs.Laws.{same-members, has-added, has-joined, added-fits, joined-fits, added-outside, meeting-one, one-meeting, below-member, member-below, member-bound}
 
 -- `a | b` is the union
 pub or-joined : (a b : ℕ) → a < 2 ^ 64 → b < 2 ^ 64 → bitOr a b ≡ joined a b
@@ -18,11 +18,28 @@ or-joined a b ha hb =
     same-members (bitOr a b) (joined a b) (or-lt 64 a b ha hb) (joined-fits a b)
     (λ d l. has-or a b d ∙ sym (has-joined a b d ha hb))
 
--- `s | mask of d` is s with d added
-pub or-added : (s d : ℕ) → s < 2 ^ 64 → d < 64 → bitOr s (2 ^ d) ≡ added s d
+-- `s | 2 to the power d` is s with d added
+or-added : (s d : ℕ) → s < 2 ^ 64 → d < 64 → bitOr s (2 ^ d) ≡ added s d
 or-added s d hs hd =
     same-members (bitOr s (2 ^ d)) (added s d) (or-lt 64 s (2 ^ d) hs (pow-lt hd)) (added-fits s d)
     (λ e l. has-or s (2 ^ d) e ∙ ap (λ (x : Bool). has s e || x) (has-mask d e) ∙ sym (has-added s d e hs hd))
+
+-- the mask of an object from 0 to 63, and what stands for that of any other number
+pub mask-inside : (d : ℕ) → d < 64 → maskOf d ≡ 2 ^ d
+unfolding maskOf
+mask-inside d h = ap (λ (b : Bool). cond b (2 ^ d) 0) (lt-ltb d 64 h)
+
+pub mask-outside : (d : ℕ) → 64 ≤ d → maskOf d ≡ 0
+unfolding maskOf
+mask-outside d h = ap (λ (b : Bool). cond b (2 ^ d) 0) (le-ltb d 64 h)
+
+-- `s | mask of d` is s with d added, for any d
+pub or-mask : (s d : ℕ) → s < 2 ^ 64 → bitOr s (maskOf d) ≡ added s d
+or-mask s d hs = go (ltb d 64) refl
+  where
+    go : (b : Bool) → ltb d 64 ≡ b → bitOr s (maskOf d) ≡ added s d
+    go true t = ap (bitOr s) (mask-inside d (ltb-true d 64 t)) ∙ or-added s d hs (ltb-true d 64 t)
+    go false t = ap (bitOr s) (mask-outside d (ltb-false d 64 t)) ∙ or-zero-r s ∙ sym (added-outside s d hs (ltb-false d 64 t))
 
 and-false : (b : Bool) → (b && false) ≡ false
 and-false true = refl

@@ -26,6 +26,10 @@ each (suc n) f = f n && each n f
 abbrev pub mostObjects : ℕ
 mostObjects = 64
 
+-- the mask of object d (document 01: its mark): 2 to the power d; 64 and more are no objects and have none
+unfoldable pub maskOf : ℕ → ℕ
+maskOf d = cond (ltb d mostObjects) (2 ^ d) 0
+
 -- the empty set
 unfoldable pub none : ℕ
 none = collect mostObjects (λ e. false)
