@@ -8,6 +8,7 @@ tests/tool.sh rt cargo gcc make valgrind
 [ -x /usr/bin/time ] || { echo "missing tool: /usr/bin/time" >&2; exit 1; }
 
 out=target/bench
+valgrind=$(command -v valgrind)
 seed=10
 few=100000
 many=1000000
@@ -32,11 +33,12 @@ same_listings() {
   "$peer" <"$1" | cmp -s - "$listing" || { echo "script.sh: the peer lists $1 differently" >&2; exit 1; }
 }
 
-# counted SCRIPT WORDS..: instructions of a command that takes the script, callgrind's options first
+# counted SCRIPT WORDS..: instructions of a command that takes the script, callgrind's options first. With no environment: its size moves
+# the stack
 counted() {
   local script=$1
   shift
-  valgrind --quiet --tool=callgrind --callgrind-out-file="$out/profile" "$@" <"$script" >"$out/listing"
+  env -i "$valgrind" --quiet --tool=callgrind --callgrind-out-file="$out/profile" "$@" <"$script" >"$out/listing"
   sed -n 's/^summary: //p' "$out/profile"
 }
 
