@@ -26,7 +26,7 @@ each (suc n) f = f n && each n f
 abbrev pub mostObjects : ℕ
 mostObjects = 64
 
--- the mask of object d (document 01: its mark): 2 to the power d; 64 and more are no objects and have none
+-- the mask of object d (document 01: its mark): 2 to the power d; of 64 and more, which are no objects, the empty set
 unfoldable pub maskOf : ℕ → ℕ
 maskOf d = cond (ltb d mostObjects) (2 ^ d) 0
 
