@@ -5,7 +5,7 @@ use mathlib.Core.List.{List, [], _∷_, _++_}
 use Prim.Native.Nat.{ℕ, suc, _+_, _-_}
 use lib.Dec.{ltb}
 use lib.ListN.{set, take, drop}
-use Rattle.objset.specs.Objset.{added, meeting}
+use Rattle.objset.specs.Objset.{isEmpty, added, meeting}
 use Rattle.core.specs.declared.Core.{Core}
 use Rattle.core.specs.declared.Job.{Job}
 use Rattle.core.specs.Parts.{noJob, idle, dataSet, running}
@@ -91,6 +91,10 @@ struckBy ws k = cond (isStruck ws k) (aborted k) k
 -- the transaction of a core ends; its jobs stay
 abbrev pub over : Core → Core
 over k = idle (k .jobs) (k .count)
+
+-- it only looks: the write set of its present attempt is empty (document 02, paper 4)
+abbrev pub onlyLooks : Core → Bool
+onlyLooks k = isEmpty (k .writes)
 
 -- ---- two transactions
 

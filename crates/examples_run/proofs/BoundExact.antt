@@ -9,7 +9,7 @@ use native.Mathlib.Omega.{arith}
 use lib.Dec.{leb}
 use lib.ListN.{length, replicate}
 use borrow.Author.Tests.{leb-true, leb-false}
-use Rattle.objset.specs.Objset.{has, collect, some, each, none, added, joined, meeting, below}
+use Rattle.objset.specs.Objset.{has, collect, some, each, none, isEmpty, added, joined, meeting, below}
 use Rattle.core.specs.declared.Answer.the-variants.{Ready}
 use Rattle.core.specs.Parts.{mostCores, least, running}
 use Rattle.core.specs.Calls.{first}
@@ -92,7 +92,7 @@ Tested k l =
 all-fit : (fits 0 9 five-rounds in-progress 1 1 (deeds (played (start 2 1) [] (calls (opening ++ tight)))) ≡ true)
     × (fits 0 10 (1 ∷ five-rounds) committed 1 1 (deeds (played (start 2 1) [] (calls (opening ++ tight ++ last)))) ≡ true)
     × Tested 1 2 × Tested 2 1 × Tested 2 2
-unfolding five-rounds opening tight last on again opened served allServed callsFor roundsFor total played place fits coreBegun begunBelow short allShort allRounds amounts deeds kind values inProgress births born any touched wrote crosses attempt among isRound fate rule setup first unless unlessLent released release begun begin setBackTold accessRefusal valueRead valued read written write contender blocked leastBy struckBy cleared changed through commitRefusal commit ended giveUp finished finish tally least running inRange setsWithin ownerListed idleClear zombieEmpty fewJobs unusedJobs lackedCores lackedObjects ownerFirst ticketsDiffer ticketsGiven ticketsCounted versionsBounded smallerTickets abortsBounded sound has collect some each none added joined meeting below
+unfolding five-rounds opening tight last on again opened served allServed callsFor roundsFor total played place fits coreBegun begunBelow short allShort allRounds amounts deeds kind values inProgress births born any touched wrote crosses attempt among isRound fate rule setup first unless unlessLent released release begun begin setBackTold accessRefusal valueRead valued read written write contender blocked leastBy struckBy cleared changed through commitRefusal commit ended giveUp finished finish tally least running inRange setsWithin ownerListed idleClear zombieEmpty fewJobs unusedJobs lackedCores lackedObjects ownerFirst ticketsDiffer ticketsGiven ticketsCounted versionsBounded smallerTickets abortsBounded sound has collect some each none isEmpty added joined meeting below
 all-fit = (refl, refl, refl, refl, refl)
 
 pub bound-is-exact : Exact 1 1

@@ -5,7 +5,7 @@ use mathlib.Core.Bool.{Bool, true, _&&_}
 use mathlib.Core.List.{List, [], _∷_, _++_}
 use Prim.Native.Nat.{ℕ, _*_}
 use lib.ListN.{replicate}
-use Rattle.objset.specs.Objset.{has, collect, some, each, none, added, joined, meeting, below}
+use Rattle.objset.specs.Objset.{has, collect, some, each, none, isEmpty, added, joined, meeting, below}
 use Rattle.core.specs.declared.Answer.{Answer}
 use Rattle.core.specs.declared.Answer.the-variants.{Ready, Running, Queued, Begun, Value, Written, Waits, Committed, SetBack, Ended, Finished, Refused}
 use Rattle.machine.specs.Record.{tally}
@@ -208,5 +208,5 @@ examples =
     ++ (exampleD ∷ exampleE ∷ exampleF ∷ exampleG ∷ exampleH ∷ exampleI ∷ exampleJ ∷ exampleK ∷ firstInTheWay ∷ [])
 
 pub all-hold : allHold examples ≡ true
-unfolding examples exampleA refusedSetup acceptedSetup exampleB exampleC exampleD exampleE exampleF bothBegun exampleG exampleH exampleI exampleJ exampleK firstInTheWay allHold holds follows rule setup first unless unlessLent released release begun begin setBackTold accessRefusal valueRead valued read written write contender blocked leastBy struckBy cleared changed through commitRefusal commit ended giveUp finished finish kind values sameList sameAnswer tally least running inRange setsWithin ownerListed idleClear zombieEmpty fewJobs unusedJobs lackedCores lackedObjects ownerFirst ticketsDiffer ticketsGiven ticketsCounted versionsBounded smallerTickets abortsBounded sound has collect some each none added joined meeting below
+unfolding examples exampleA refusedSetup acceptedSetup exampleB exampleC exampleD exampleE exampleF bothBegun exampleG exampleH exampleI exampleJ exampleK firstInTheWay allHold holds follows rule setup first unless unlessLent released release begun begin setBackTold accessRefusal valueRead valued read written write contender blocked leastBy struckBy cleared changed through commitRefusal commit ended giveUp finished finish kind values sameList sameAnswer tally least running inRange setsWithin ownerListed idleClear zombieEmpty fewJobs unusedJobs lackedCores lackedObjects ownerFirst ticketsDiffer ticketsGiven ticketsCounted versionsBounded smallerTickets abortsBounded sound has collect some each none isEmpty added joined meeting below
 all-hold = refl

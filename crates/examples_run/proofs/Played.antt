@@ -4,7 +4,7 @@ use mathlib.Core.Path.{_≡_, refl, ap, subst}
 use mathlib.Core.List.{List, [], _∷_, _++_, map}
 use Prim.Native.Nat.{ℕ, _*_}
 use lib.ListN.{replicate}
-use Rattle.objset.specs.Objset.{has, collect, some, each, none, added, joined, meeting, below}
+use Rattle.objset.specs.Objset.{has, collect, some, each, none, isEmpty, added, joined, meeting, below}
 use Rattle.core.specs.declared.Answer.the-variants.{Ready, Running, Begun, Value, Written, Waits, Committed, SetBack, Ended, Refused}
 use Rattle.core.specs.Parts.{least, running}
 use Rattle.core.specs.Calls.{first}
@@ -82,5 +82,5 @@ tightRun = opening ++ tight ++ last ++ afterwards
 
 pub both-played : (played (start 2 2) [] (calls (exampleA .calls)) ≡ events [] (exampleA .calls))
     × (played (start 2 1) [] (calls tightRun) ≡ events [] tightRun)
-unfolding exampleA opening tight last afterwards played events rule setup first unless unlessLent released release begun begin setBackTold accessRefusal valueRead valued read written write contender blocked leastBy struckBy cleared changed through commitRefusal commit ended giveUp finished finish tally least running inRange setsWithin ownerListed idleClear zombieEmpty fewJobs unusedJobs lackedCores lackedObjects ownerFirst ticketsDiffer ticketsGiven ticketsCounted versionsBounded smallerTickets abortsBounded sound has collect some each none added joined meeting below
+unfolding exampleA opening tight last afterwards played events rule setup first unless unlessLent released release begun begin setBackTold accessRefusal valueRead valued read written write contender blocked leastBy struckBy cleared changed through commitRefusal commit ended giveUp finished finish tally least running inRange setsWithin ownerListed idleClear zombieEmpty fewJobs unusedJobs lackedCores lackedObjects ownerFirst ticketsDiffer ticketsGiven ticketsCounted versionsBounded smallerTickets abortsBounded sound has collect some each none isEmpty added joined meeting below
 both-played = (refl, refl)

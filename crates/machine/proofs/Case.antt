@@ -6,9 +6,9 @@ use mathlib.Core.List.{List, [], _∷_}
 use Prim.Native.Nat.{ℕ, zero, suc, _*_, _≤_, _<_}
 use lib.Dec.{eqb, ltb}
 use lib.ListN.{length}
-use borrow.Author.Tests.{ltb-true, ltb-false, leb-false, eqb-true, eqb-false, not-false}
+use borrow.Author.Tests.{ltb-true, ltb-false, leb-false, eqb-true, eqb-false, not-true, not-false}
 use Rattle.objset.specs.Objset.{meeting}
-use Rattle.objset.proofs.Laws.{both-left, both-right, one-some}
+use Rattle.objset.proofs.Laws.{both-left, both-right, one-some, one-filled, meeting-one}
 use Rattle.machine.specs.declared.Machine.{Machine}
 use Rattle.core.specs.declared.Core.{Core}
 use Rattle.core.specs.declared.Answer.{Answer}
@@ -19,9 +19,9 @@ use Rattle.core.specs.Parts.{dataSet}
 use Rattle.machine.specs.Sound.{sound}
 use Rattle.machine.specs.Answers.{kind}
 use Rattle.machine.specs.Follows.{Follows}
-use Rattle.machine.specs.Rule.{World, Result, lent, withMachine, unless, unlessLent, outOfRange, misfit, newWorld, setup, unsound, wrongTables, noSuchCore, noSuchObject, fullList, jobless, ticketsSpent, released, release, begun, begin, setBackTold, accessRefusal, valued, read, written, write, contender, blocked, firstAhead, through, waiting, commitRefusal, commit, ended, giveUp, finished, finish, rule, Call, Release, Begin, Read, Write, Commit, GiveUp, Finish}
+use Rattle.machine.specs.Rule.{World, Result, lent, withMachine, unless, unlessLent, outOfRange, misfit, newWorld, setup, unsound, wrongTables, noSuchCore, noSuchObject, fullList, jobless, ticketsSpent, released, release, begun, begin, setBackTold, accessRefusal, valued, read, written, write, contender, blocked, mustWait, firstAhead, through, waiting, commitRefusal, commit, ended, giveUp, finished, finish, rule, Call, Release, Begin, Read, Write, Commit, GiveUp, Finish}
 use Rattle.core.specs.Calls.{first}
-use Rattle.core.specs.Life.{conflicting, isStruck}
+use Rattle.core.specs.Life.{onlyLooks, conflicting, isStruck}
 use Rattle.machine.proofs.Refusals.{passed}
 use Rattle.machine.proofs.Least.{Least, least}
 
@@ -65,17 +65,28 @@ unfolding blocked
 first-ahead m c b = least (λ e. coreAt m e .ticket) (contender m c) 16 b
 
 -- one whose data set meets the write set of another conflicts with it
-pub struck-conflicts : (a b : Core) → isStruck (a .writes) b ≡ true → conflicting a b ≡ true
+struck-conflicts : (a b : Core) → isStruck (a .writes) b ≡ true → conflicting a b ≡ true
 struck-conflicts a b hit = ap (λ (x : Bool). x || meeting (b .writes) (dataSet a)) (both-right (b .active) _ hit)
 
--- where nobody is ahead of core c, a transaction in conflict with its own has no smaller ticket
-pub not-ahead : (m : Machine) (c e : ℕ) → blocked m c ≡ false → e < 16 → coreAt m e .active ≡ true
-    → conflicting (coreAt m c) (coreAt m e) ≡ true → coreAt m c .ticket ≤ coreAt m e .ticket
+-- whoever is struck by a commit that need not wait has no smaller ticket: where it strikes it has written, so nobody ahead is in conflict
+pub not-ahead : (m : Machine) (c e : ℕ) → mustWait m c ≡ false → e < 16 → isStruck (coreAt m c .writes) (coreAt m e) ≡ true
+    → coreAt m c .ticket ≤ coreAt m e .ticket
 unfolding blocked contender
-not-ahead m c e free l active clash = go (ltb (coreAt m e .ticket) (coreAt m c .ticket)) refl
+not-ahead m c e free l hit = go (ltb (coreAt m e .ticket) (coreAt m c .ticket)) refl
   where
+    active : coreAt m e .active ≡ true
+    active = both-left (coreAt m e .active) _ hit
+
+    clash : conflicting (coreAt m c) (coreAt m e) ≡ true
+    clash = struck-conflicts (coreAt m c) (coreAt m e) hit
+
+    has-written : onlyLooks (coreAt m c) ≡ false
+    has-written =
+        let d = meeting-one (coreAt m c .writes) (dataSet (coreAt m e)) (both-right (coreAt m e .active) _ hit) in
+        one-filled (coreAt m c .writes) (d .0) (d .1) (d .2)
+
     go : (b : Bool) → ltb (coreAt m e .ticket) (coreAt m c .ticket) ≡ b → coreAt m c .ticket ≤ coreAt m e .ticket
-    go true t = absurd (true≢false (sym (one-some 16 (contender m c) e l (ap₂ _&&_ (ap₂ _&&_ active t) clash)) ∙ free))
+    go true t = absurd (true≢false (sym (ap₂ _&&_ (ap not has-written) (one-some 16 (contender m c) e l (ap₂ _&&_ (ap₂ _&&_ active t) clash))) ∙ free))
     go false t = ltb-false (coreAt m e .ticket) (coreAt m c .ticket) t
 
 pub data Case (w : World) : Call → Answer → World → Type 0 where
@@ -90,8 +101,9 @@ pub data Case (w : World) : Call → Answer → World → Type 0 where
       → Case w (Read c d) (valued w c d .answer) (valued w c d .world)
   is-written : {c d v : ℕ} → Lent-ok w c → d < w .machine .objects → coreAt (w .machine) c .zombie ≡ false
       → Case w (Write c d v) Written (written w c d v .world)
-  is-waiting : {c e : ℕ} → Lent-ok w c → coreAt (w .machine) c .zombie ≡ false → First (w .machine) c e → Case w (Commit c) (Waits e) w
-  is-through : {c : ℕ} → Lent-ok w c → coreAt (w .machine) c .zombie ≡ false → blocked (w .machine) c ≡ false
+  is-waiting : {c e : ℕ} → Lent-ok w c → coreAt (w .machine) c .zombie ≡ false → onlyLooks (coreAt (w .machine) c) ≡ false
+      → First (w .machine) c e → Case w (Commit c) (Waits e) w
+  is-through : {c : ℕ} → Lent-ok w c → coreAt (w .machine) c .zombie ≡ false → mustWait (w .machine) c ≡ false
       → Case w (Commit c) (through w c .answer) (through w c .world)
   is-ended : {c : ℕ} → Core-ok (w .machine) c → coreAt (w .machine) c .active ≡ true
       → Case w (GiveUp c) Ended (withMachine w (ended (w .machine) c .machine))
@@ -250,7 +262,7 @@ commit-ok w c e =
 
 pub commit-case : (w : World) (c : ℕ) → Case w (Commit c) (commit w c .answer) (commit w c .world)
 unfolding commit
-commit-case w c = go (commitRefusal w c) refl (coreAt m c .zombie) refl (blocked m c) refl
+commit-case w c = go (commitRefusal w c) refl (coreAt m c .zombie) refl (mustWait m c) refl
   where
     m : Machine
     m = w .machine
@@ -258,10 +270,12 @@ commit-case w c = go (commitRefusal w c) refl (coreAt m c .zombie) refl (blocked
     done : ℕ → Bool → Bool → Result
     done r z b = unlessLent r w (cond z (setBackTold w c) (cond b (waiting w c) (through w c)))
 
-    go : (r : ℕ) → commitRefusal w c ≡ r → (z : Bool) → coreAt m c .zombie ≡ z → (b : Bool) → blocked m c ≡ b
+    go : (r : ℕ) → commitRefusal w c ≡ r → (z : Bool) → coreAt m c .zombie ≡ z → (b : Bool) → mustWait m c ≡ b
         → Case w (Commit c) (done r z b .answer) (done r z b .world)
     go zero t true z b u = unfold unlessLent setBackTold in is-told asks-commit (commit-ok w c t) z
-    go zero t false z true u = unfold unlessLent in is-waiting (commit-ok w c t) z (first-ahead m c u)
+    go zero t false z true u =
+        let wrote = not-true (onlyLooks (coreAt m c)) (both-left (not (onlyLooks (coreAt m c))) (blocked m c) u) in
+        unfold unlessLent in is-waiting (commit-ok w c t) z wrote (first-ahead m c (both-right (not (onlyLooks (coreAt m c))) (blocked m c) u))
     go zero t false z false u = unfold unlessLent in is-through (commit-ok w c t) z u
     go (suc n) t z y b u = unfold unlessLent in is-refused
 

@@ -11,12 +11,13 @@ use lib.Seq.{set-getD}
 use borrow.Author.Tests.{ltb-true, ltb-false, lt-ltb, eq-eqb}
 use Rattle.objset.specs.Objset.{has}
 use Rattle.objset.proofs.Digits.{has-zero}
+use Rattle.objset.proofs.Laws.{both-right}
 use Rattle.core.specs.declared.Core.{Core}
 use Rattle.core.specs.declared.Answer.{Answer}
 use Rattle.core.specs.declared.Answer.the-variants.{Refused, Waits, SetBack}
 use Rattle.core.specs.declared.calls.Settled.{Settled}
 use Rattle.core.specs.Parts.{noCore}
-use Rattle.core.specs.Life.{unmarked, over}
+use Rattle.core.specs.Life.{unmarked, over, onlyLooks}
 use Rattle.core.specs.Calls.{stays, passes, commitOn}
 use Rattle.core.proofs.CallLaws.{skips, hits, none-holds, settled-either}
 use Rattle.machine.specs.declared.Machine.{Machine}
@@ -24,7 +25,7 @@ use Rattle.machine.specs.declared.inside.calls.Found.{Found}
 use Rattle.machine.specs.Record.{coreAt, putCore}
 use Rattle.machine.specs.Sound.{sound}
 use Rattle.machine.specs.Inside.{SoundWorld}
-use Rattle.machine.specs.Rule.{World, Result, withMachine, unlessLent, wrongTables, setBackTold, contender, blocked, firstAhead, changed, moved, through, waiting, commitRefusal, commit}
+use Rattle.machine.specs.Rule.{World, Result, withMachine, unlessLent, wrongTables, setBackTold, contender, blocked, mustWait, firstAhead, changed, moved, through, waiting, commitRefusal, commit}
 use Rattle.machine.specs.OneCore.{found, firstHolding, carriedOut}
 use Rattle.machine.proofs.Entries.{put-each, changed-at, changed-long}
 use Rattle.machine.proofs.Facts.{stands, core-place, one-open}
@@ -156,11 +157,11 @@ module _ (w : World) (c : ℕ) (s : sound (w .machine) ≡ true) (committed-fits
       commit-told z = rw z (taken (setBackTold w c))
 
       module _ (z : coreAt (w .machine) c .zombie ≡ false) where
-        pub commit-waits : blocked (w .machine) c ≡ true → waiting w c ≡ commit w c
+        pub commit-waits : mustWait (w .machine) c ≡ true → waiting w c ≡ commit w c
         unfolding commit
         commit-waits b = rw (z, b) (taken (waiting w c))
 
-        pub commit-through : blocked (w .machine) c ≡ false → through w c ≡ commit w c
+        pub commit-through : mustWait (w .machine) c ≡ false → through w c ≡ commit w c
         unfolding commit
         commit-through b = rw (z, b) (taken (through w c))
 
@@ -207,16 +208,16 @@ module _ (w : World) where
       abbrev ahead : ℕ
       ahead = firstHolding (m .core) (coreAt m c)
 
-      -- where it is blocked, waits names the one who is first ahead
-      held : (b : Bool) → blocked m c ≡ b → ahead ≡ cond b (firstAhead m c) 16
+      -- where it must wait, waits names the one who is first ahead
+      held : (b : Bool) → mustWait m c ≡ b → ahead ≡ cond b (firstAhead m c) 16
       unfolding blocked contender
       held b t = ap (λ (x : Bool). cond x (firstAhead m c) 16) t
 
-      first-place : blocked m c ≡ true → firstAhead m c < 16
+      first-place : mustWait m c ≡ true → firstAhead m c < 16
       unfolding blocked
-      first-place t = least (λ e. coreAt m e .ticket) (contender m c) 16 t .below
+      first-place t = least (λ e. coreAt m e .ticket) (contender m c) 16 (both-right (not (onlyLooks (coreAt m c))) (blocked m c) t) .below
 
-      on-core : (a z b : Bool) → coreAt m c .active ≡ a → coreAt m c .zombie ≡ z → blocked m c ≡ b
+      on-core : (a z b : Bool) → coreAt m c .active ≡ a → coreAt m c .zombie ≡ z → mustWait m c ≡ b
           → carriedOut w c
           (cond a (cond z (stays (unmarked (coreAt m c)) SetBack) (cond (ltb ahead 16) (stays (coreAt m c) (Waits ahead)) (passes (coreAt m c)))) (stays (coreAt m c) (Refused 9)))
           ≡ commit w c
@@ -244,7 +245,7 @@ module _ (w : World) where
         go : (p : Bool) → ltb c (m .cores) ≡ p → (q : Bool) → ltb 0 (m .objects) ≡ q
             → let to : Found = cond p (cond q (record { core = c; object = 0; refusal = 0 }) (record { core = 0; object = 0; refusal = 5 })) (record { core = 0; object = 0; refusal = 4 }) in
             carriedOut w (to .core) (settledAt to) ≡ commit w c
-        go true h true l = on-core (ltb-true _ _ h) (coreAt m c .active) (coreAt m c .zombie) (blocked m c) refl refl refl
+        go true h true l = on-core (ltb-true _ _ h) (coreAt m c .active) (coreAt m c .zombie) (mustWait m c) refl refl refl
         go true h false l = absurd (omega (arith, ltb-false 0 (m .objects) l, stands m (f .is-sound) .some-objects))
         go false h q l = settle-same 0 (Refused 4) ∙ commit-no-core w c (f .is-sound) (f .committed-long) (f .pending-long) (ltb-false _ _ h)
 

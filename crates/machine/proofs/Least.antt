@@ -1,7 +1,7 @@
 -- The number of smallest key among those that pass a test, and the loop that finds the core of smallest ticket among those that hold a
 -- transaction back.
 use mathlib.Core.Path.{_≡_, refl, sym, ap, ap₂, subst, _∙_}
-use mathlib.Core.Bool.{Bool, true, false, cond, _&&_, _||_, true≢false}
+use mathlib.Core.Bool.{Bool, true, false, cond, not, _&&_, _||_, true≢false}
 use mathlib.Core.List.{List}
 use Prim.Native.Nat.{ℕ, zero, suc, _≤_, _<_}
 use native.Mathlib.Omega.{arith}
@@ -12,7 +12,7 @@ use Rattle.objset.specs.Objset.{some}
 use Rattle.objset.proofs.Laws.{both-left, both-right, one-some}
 use Rattle.core.specs.declared.Core.{Core}
 use Rattle.core.specs.Parts.{noCore}
-use Rattle.core.specs.Life.{conflicting, conflictsBelow, holdsBack}
+use Rattle.core.specs.Life.{onlyLooks, conflicting, conflictsBelow, holdsBack}
 use Rattle.machine.specs.Rule.{leastBy}
 use Rattle.machine.specs.OneCore.{firstHolding}
 
@@ -147,6 +147,15 @@ module _ (cores : List Core) (k : Core) where
             absurd (true≢false (sym (subst (λ (u : ℕ). conflictsBelow u (getD cores e noCore) k ≡ true) (sym beat) here) ∙ miss))
         go false none false here q t is beat = (is, beat)
 
+  -- nobody is looked at for one that only looks
+  waits-for : Bool → ℕ
+  waits-for looks = cond (not looks && some 16 holding) (soFar 16) 16
+
+  pub looked-at-nobody : onlyLooks k ≡ true → 16 ≡ firstHolding cores k
+  unfolding waits-for
+  looked-at-nobody looks = ap waits-for (sym looks)
+
   -- all had their turn
-  pub looked-all : (e ahead below : ℕ) → e ≡ 16 → Looked e ahead below → ahead ≡ firstHolding cores k
-  looked-all e ahead below all l = l .found ∙ ap (λ (n : ℕ). cond (some n holding) (soFar n) 16) all
+  pub looked-all : (e ahead below : ℕ) → onlyLooks k ≡ false → e ≡ 16 → Looked e ahead below → ahead ≡ firstHolding cores k
+  unfolding waits-for
+  looked-all e ahead below wrote all l = l .found ∙ ap (λ (n : ℕ). cond (some n holding) (soFar n) 16) all ∙ ap waits-for (sym wrote)

@@ -15,7 +15,7 @@ use Rattle.machine.specs.declared.Outcome.{Outcome}
 use Rattle.machine.specs.Record.{coreAt, blank}
 use Rattle.core.specs.Parts.{running}
 use Rattle.machine.specs.Answers.{refusalNumber}
-use Rattle.machine.specs.Rule.{commitRefusal, World, Result, lent, unlent, unless, unlessLent, setup, released, release, begun, begin, setBackTold, accessRefusal, valued, read, written, write, blocked, through, waiting, commit, ended, giveUp, finished, finish, rule, Call, Release, Begin, Read, Write, Commit, GiveUp, Finish}
+use Rattle.machine.specs.Rule.{commitRefusal, World, Result, lent, unlent, unless, unlessLent, setup, released, release, begun, begin, setBackTold, accessRefusal, valued, read, written, write, mustWait, through, waiting, commit, ended, giveUp, finished, finish, rule, Call, Release, Begin, Read, Write, Commit, GiveUp, Finish}
 use Rattle.core.specs.Calls.{first}
 use Rattle.core.specs.Life.{withJob}
 use Rattle.machine.specs.Refusals.{refusals, setupRefusals, applies, Smallest}
@@ -145,7 +145,7 @@ refuses w (Write c d v) =
     let r = lent-refuses (accessRefusal w c d) w _ (accepted-access (coreAt (w .machine) c .zombie) w c (written w c d v) (unfold written refusalNumber in refl)) in
     (r .0 ∙ access-in-order w c d, r .1)
 refuses w (Commit c) =
-    let r = lent-refuses (commitRefusal w c) w _ (accepted-access (coreAt (w .machine) c .zombie) w c _ (accepted-commit (blocked (w .machine) c) w c)) in
+    let r = lent-refuses (commitRefusal w c) w _ (accepted-access (coreAt (w .machine) c .zombie) w c _ (accepted-commit (mustWait (w .machine) c) w c)) in
     (r .0 ∙ commit-in-order w c, r .1)
 refuses w (GiveUp c) = unless-refuses _ w (ended (w .machine) c) (unfold ended refusalNumber in refl)
 refuses w (Finish c) = unless-refuses _ w (finished (w .machine) c) (unfold finished refusalNumber in refl)

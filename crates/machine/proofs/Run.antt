@@ -17,5 +17,6 @@ mod CoreAgrees
 mod Agreement
 mod AgreementCommit
 mod Steps
+mod Looking
 pub mod WholeRun
 pub mod EveryList

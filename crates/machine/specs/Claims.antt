@@ -2,15 +2,15 @@
 -- it from top to bottom; its words are in Words.antt, Rounds.antt and Serial.antt, the rules in Rule.antt, what a call's promise
 -- says in Follows.antt.
 use mathlib.Core.Path.{_≡_}
-use mathlib.Core.Bool.{true}
+use mathlib.Core.Bool.{true, false}
 use mathlib.Core.List.{List, [], _∷_, _++_}
 use Prim.Native.Nat.{ℕ, _+_, _*_, _≤_, _<_}
 use Rattle.core.specs.declared.Answer.{Answer}
-use Rattle.core.specs.declared.Answer.the-variants.{Value}
+use Rattle.core.specs.declared.Answer.the-variants.{Value, SetBack, Committed}
 use Rattle.machine.specs.Record.{tally}
-use Rattle.machine.specs.Rule.{World, rule, Call, Read}
+use Rattle.machine.specs.Rule.{World, rule, Call, Read, Commit}
 use Rattle.machine.specs.Follows.{Follows}
-use Rattle.machine.specs.Words.{Event, Deed, begins, waits, commits, deeds, inProgress, births, born, ahead, attempt, strikes, conflict, struck, setBacks}
+use Rattle.machine.specs.Words.{Event, Deed, begins, waits, commits, deeds, inProgress, births, born, ahead, wroteNothing, attempt, strikes, conflict, struck, setBacks}
 use Rattle.machine.specs.Rounds.{Rounds, fate, committed, given-up, AtMost}
 use Rattle.machine.specs.Serial.{replays, serial, stood, settled, version}
 use Rattle.core.specs.Parts.{mostCores}
@@ -51,6 +51,8 @@ pub record Served (h : List Deed) : Type 0 where
   -- the first of them: of all in progress that were begun earlier and are in conflict with it none was begun before the one named
   pub none-before : (late early : List Deed) (c e b : ℕ) → h ≡ late ++ waits c e ∷ early
       → inProgress early b ≡ true → born early b < born early c → conflict early c b ≡ true → born early e ≤ born early b
+  -- and never while its present attempt has written nothing (document 02, paper 4)
+  pub no-looker-waits : (late early : List Deed) (c e : ℕ) → h ≡ late ++ waits c e ∷ early → wroteNothing (attempt early c) ≡ false
   -- its reported setbacks are the commits that struck it, and as many of its calls were answered set back
   pub reported : (late early : List Deed) (c n : ℕ) → h ≡ late ++ commits c n ∷ early → (n ≡ struck early c) × (n ≡ setBacks early c)
   -- if not given up and with at most l reads and writes in any attempt of T and those k, committed within (k + 1) × (l + 2) rounds
@@ -68,10 +70,18 @@ pub record Serial (objects : ℕ) (h : List Deed) : Type 0 where
       → (between then-on : List Deed) × (early ≡ between ++ then-on) × (settled then-on ≡ true)
       × (stood (attempt early c) (serial objects then-on) ≡ true)
 
+-- Demand 3 of those who only look (document 02, paper 4), from the calls and answers of the list.
+pub record Looking (es : List Event) : Type 0 where
+  -- an attempt that has written nothing ends, by its own commit, at its first commit request that is not answered set back
+  pub looker-commits : (late early : List Event) (c : ℕ) (a : Answer) → es ≡ late ++ record { call = Commit c; answer = a } ∷ early
+      → inProgress (deeds early) c ≡ true → wroteNothing (attempt (deeds early) c) ≡ true → (a ≡ SetBack → ⊥)
+      → a ≡ Committed (struck (deeds early) c)
+
 -- The whole claim, about a run from w₀ over the list es to the world w.
 pub record Claim (w₀ : World) (es : List Event) (w : World) : Type 0 where
   pub by-the-rule : ByTheRule w₀ es w
   pub served : Served (deeds es)
+  pub looking : Looking es
   pub serially : Serial (w₀ .machine .objects) (deeds es)
   -- and the serial run left in the cards what the run left, after each call
   pub same-cards : (late early : List Event) → es ≡ late ++ early → worked w₀ early .committed ≡ serial (w₀ .machine .objects) (deeds early)

@@ -13,7 +13,7 @@ use Rattle.core.specs.declared.Answer.{Answer}
 use Rattle.core.specs.declared.Answer.the-variants.{Ready, Running, Queued, Begun, Value, Written, Waits, Committed, SetBack, Ended, Finished, Refused}
 use Rattle.machine.specs.declared.Outcome.{Outcome}
 use Rattle.core.specs.Parts.{mostCores, jobAt, running}
-use Rattle.core.specs.Life.{withJob, withoutJob, withTransaction, unmarked, withRead, withWrite, holdsBack, struckBy, over}
+use Rattle.core.specs.Life.{withJob, withoutJob, withTransaction, unmarked, withRead, withWrite, onlyLooks, holdsBack, struckBy, over}
 use Rattle.core.specs.Calls as Core
 use Rattle.core.specs.Calls.{first}
 use Rattle.machine.specs.Record.{coreAt, activeAt, sizesInRange, blank, machineOf, putCore}
@@ -188,8 +188,13 @@ write w c d v = unlessLent (accessRefusal w c d) w (cond (coreAt (w .machine) c 
 unfoldable pub contender : Machine → ℕ → ℕ → Bool
 contender m c e = holdsBack (coreAt m e) (coreAt m c)
 
+-- some core holds one
 unfoldable pub blocked : Machine → ℕ → Bool
 blocked m c = some mostCores (contender m c)
+
+-- if a conflicting transaction has a smaller ticket, a commit waits, unless it only looks: then it commits when requested (document 02, paper 4)
+abbrev pub mustWait : Machine → ℕ → Bool
+mustWait m c = not (onlyLooks (coreAt m c)) && blocked m c
 
 -- of the numbers below n that pass f, if one does, the one of smallest key, the first of them among equals
 unfoldable pub leastBy : (ℕ → ℕ) → ℕ → (ℕ → Bool) → ℕ
@@ -238,7 +243,7 @@ through w c =
           };
     }
 
--- if a conflicting transaction has a smaller ticket, waits, with the core that is first ahead; nothing else changes
+-- waits, with the core that is first ahead; nothing else changes
 abbrev pub waiting : World → ℕ → Result
 waiting w c = record { answer = Waits (firstAhead (w .machine) c); world = w }
 
@@ -250,7 +255,7 @@ commitRefusal w c =
 unfoldable pub commit : World → ℕ → Result
 commit w c =
     unlessLent (commitRefusal w c) w
-    (cond (coreAt (w .machine) c .zombie) (setBackTold w c) (cond (blocked (w .machine) c) (waiting w c) (through w c)))
+    (cond (coreAt (w .machine) c .zombie) (setBackTold w c) (cond (mustWait (w .machine) c) (waiting w c) (through w c)))
 
 -- ---- give up: the transaction ends without effect
 

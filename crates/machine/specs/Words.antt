@@ -172,6 +172,17 @@ stores (told b) d = false
 stores (gives b) d = false
 stores other d = false
 
+-- a write answered written, of any card
+abbrev pub storesAny : Deed → Bool
+storesAny (begins b) = false
+storesAny (reads b e v) = false
+storesAny (writes b e v) = true
+storesAny (waits b e) = false
+storesAny (commits b n) = false
+storesAny (told b) = false
+storesAny (gives b) = false
+storesAny other = false
+
 -- some deed of the list passes the test
 unfoldable pub any : (Deed → Bool) → List Deed → Bool
 any f [] = false
@@ -184,6 +195,10 @@ touched a d = any (λ x. touches x d) a
 -- an attempt has written card d
 unfoldable pub wrote : List Deed → ℕ → Bool
 wrote a d = any (λ x. stores x d) a
+
+-- an attempt has written nothing: it only looks (document 02, paper 4)
+unfoldable pub wroteNothing : List Deed → Bool
+wroteNothing a = not (any storesAny a)
 
 -- attempt a has written a card that attempt b has touched
 unfoldable pub crosses : List Deed → List Deed → Bool

@@ -8,9 +8,21 @@ use lib.Bits.{bitAnd, bitOr, and-lt, or-lt, or-zero-r}
 use lib.Dec.{eqb, ltb}
 use lib.Pow.{pow-lt, pow-mono}
 use borrow.Author.Tests.{lt-ltb, le-ltb, ltb-true, ltb-false, eqb-false, eq-eqb, ne-eqb}
-use Rattle.objset.specs.Objset.{has, collect, maskOf, added, joined, meeting, below}
+use Rattle.objset.specs.Objset.{has, collect, maskOf, isEmpty, added, joined, meeting, below}
 use Rattle.objset.proofs.Digits.{has-or, has-and, has-mask, has-zero, has-past, collect-fits, has-collect, same-digits}
-use Rattle.objset.proofs.Laws.{same-members, has-added, has-joined, added-fits, joined-fits, added-outside, meeting-one, one-meeting, below-member, member-below, member-bound}
+use Rattle.objset.proofs.Laws.{same-members, filled-one, one-filled, has-added, has-joined, added-fits, joined-fits, added-outside, meeting-one, one-meeting, below-member, member-below, member-bound}
+
+-- a word is 0 if and only if its set is empty
+pub zero-empty : (s : ℕ) → s < 2 ^ 64 → eqb s 0 ≡ isEmpty s
+zero-empty s hs = go (isEmpty s) refl
+  where
+    go : (q : Bool) → isEmpty s ≡ q → eqb s 0 ≡ q
+    go true t = eq-eqb s 0 (same-members s 0 hs (omega arith) (λ d l. outside d l (has s d) refl ∙ sym (has-zero d)))
+      where
+        outside : (d : ℕ) → d < 64 → (b : Bool) → has s d ≡ b → b ≡ false
+        outside d l true p = sym t ∙ one-filled s d l p
+        outside d l false p = refl
+    go false t = let m = filled-one s t in ne-eqb s 0 (λ z. true≢false (sym (m .2) ∙ ap (λ (x : ℕ). has x (m .0)) z ∙ has-zero (m .0)))
 
 -- `a | b` is the union
 pub or-joined : (a b : ℕ) → a < 2 ^ 64 → b < 2 ^ 64 → bitOr a b ≡ joined a b

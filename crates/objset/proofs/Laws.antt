@@ -5,8 +5,8 @@ use mathlib.Core.Bool.{Bool, true, false, not, _&&_, _||_, true≢false}
 use Prim.Native.Nat.{ℕ, zero, suc, _^_, _≤_, _<_}
 use native.Mathlib.Omega.{arith}
 use lib.Dec.{eqb, ltb}
-use borrow.Author.Tests.{ltb-true, ltb-false, lt-ltb, eqb-true, eqb-false, ne-eqb}
-use Rattle.objset.specs.Objset.{has, collect, some, each, none, added, joined, meeting, below}
+use borrow.Author.Tests.{ltb-true, ltb-false, lt-ltb, eqb-true, eqb-false, ne-eqb, not-false}
+use Rattle.objset.specs.Objset.{has, collect, some, each, none, isEmpty, added, joined, meeting, below}
 use Rattle.objset.proofs.Digits.{has-past, same-digits, collect-fits, has-collect}
 
 -- ---- tests over the first n objects
@@ -104,6 +104,15 @@ has-none d = has-collect 64 d (λ e. false) ∙ go (ltb d 64)
 pub none-zero : none ≡ 0
 unfolding none collect
 none-zero = refl
+
+-- a set that is not empty holds an object, and one that holds an object is not empty
+pub filled-one : (s : ℕ) → isEmpty s ≡ false → (d : ℕ) × (d < 64) × (has s d ≡ true)
+unfolding isEmpty
+filled-one s e = some-one 64 (has s) (not-false (some 64 (has s)) e)
+
+pub one-filled : (s d : ℕ) → d < 64 → has s d ≡ true → isEmpty s ≡ false
+unfolding isEmpty
+one-filled s d l p = ap not (one-some 64 (has s) d l p)
 
 -- a collection over a test that no object from 64 on passes
 whole : (f : ℕ → Bool) → ((d : ℕ) → 64 ≤ d → f d ≡ false) → (d : ℕ) → has (collect 64 f) d ≡ f d

@@ -34,6 +34,10 @@ maskOf d = cond (ltb d mostObjects) (2 ^ d) 0
 unfoldable pub none : ℕ
 none = collect mostObjects (λ e. false)
 
+-- no object is in the set
+unfoldable pub isEmpty : ℕ → Bool
+isEmpty s = not (some mostObjects (has s))
+
 -- the set s with object d added
 unfoldable pub added : ℕ → ℕ → ℕ
 added s d = collect mostObjects (λ e. has s e || eqb e d)

@@ -3,7 +3,7 @@
 // Each promise is an equation with a definition of specs/Objset.antt and holds for any numbers; those of the public functions speak of
 // membership alone.
 ghost use mathlib.Core.Path.{_≡_};
-ghost use Rattle.objset.specs.Objset.{maskOf, has, none, added, joined, meeting, below};
+ghost use Rattle.objset.specs.Objset.{maskOf, has, none, isEmpty, added, joined, meeting, below};
 
 // How many objects there are at most: the digits of a word.
 pub const OBJECTS: usize = 64;
@@ -20,6 +20,13 @@ pub fn empty() -> u64
     ensures { λ r. ⌜ r ≡ none ⌝ }
 {
     0
+}
+
+// Whether the set holds nothing.
+pub fn is_empty(s: u64) -> bool
+    ensures { λ r. ⌜ r ≡ isEmpty s ⌝ }
+{
+    s == 0
 }
 
 // Whether object d is in the set s: never, where d is 64 or more.

@@ -5,7 +5,7 @@ use Prim.Native.Nat.{ℕ}
 use lib.ListN.{drop}
 use Prim.Native.Char.{code}
 use Prim.Native.String.{String, [] as no-text, _∷_ as _then_}
-use Rattle.objset.specs.Objset.{has, collect, some, each, none, added, joined, meeting, below}
+use Rattle.objset.specs.Objset.{has, collect, some, each, none, isEmpty, added, joined, meeting, below}
 use Rattle.decimal.specs.Spelling.{spelling, spellingIn}
 use Rattle.decimal.specs.Reading.{allDigits, noLeadingZero, valueAfter, isNumber, readsAs}
 use Rattle.machine.specs.Record.{tally}
@@ -113,7 +113,7 @@ computed : (map (λ row. listing (row .0)) table ≡ map (λ row. row .1) table)
     ≡ (did (Rule.Commit 0) (Committed 0) ∷ did (Rule.Write 0 0 5) Written ∷ did (Rule.Begin 0) (Begun 0)
     ∷ did (Rule.Release 0 7 90) Running ∷ did (Rule.Begin 0) (Refused 7) ∷ [])
     ∷ (did (Rule.Finish 0) (Refused 7) ∷ []) ∷ [])
-unfolding table twoRuns events endsRun anew event eventOf byLine whole caseA caseK caseL ends bytes flatten listing listed rowsOf rowsAfter valueRows answered met request setUp lines Pieces.withoutLastEmpty pieces onto same fieldsOf place placesOf allStand columns columnsOf names ordered spells meant fields verb field numbered withNumber withDash spelt readsAs isNumber allDigits noLeadingZero valueAfter spelling spellingIn line said rule setup first unless unlessLent released release begun begin setBackTold accessRefusal valueRead valued read written write contender blocked leastBy struckBy cleared changed through commitRefusal commit ended giveUp finished finish tally least running inRange setsWithin ownerListed idleClear zombieEmpty fewJobs unusedJobs lackedCores lackedObjects ownerFirst ticketsDiffer ticketsGiven ticketsCounted versionsBounded smallerTickets abortsBounded sound has collect some each none added joined meeting below
+unfolding table twoRuns events endsRun anew event eventOf byLine whole caseA caseK caseL ends bytes flatten listing listed rowsOf rowsAfter valueRows answered met request setUp lines Pieces.withoutLastEmpty pieces onto same fieldsOf place placesOf allStand columns columnsOf names ordered spells meant fields verb field numbered withNumber withDash spelt readsAs isNumber allDigits noLeadingZero valueAfter spelling spellingIn line said rule setup first unless unlessLent released release begun begin setBackTold accessRefusal valueRead valued read written write contender blocked leastBy struckBy cleared changed through commitRefusal commit ended giveUp finished finish tally least running inRange setsWithin ownerListed idleClear zombieEmpty fewJobs unusedJobs lackedCores lackedObjects ownerFirst ticketsDiffer ticketsGiven ticketsCounted versionsBounded smallerTickets abortsBounded sound has collect some each none isEmpty added joined meeting below
 computed = (refl, refl)
 
 each-listing : map (λ row. listing (row .0)) table ≡ map (λ row. row .1) table

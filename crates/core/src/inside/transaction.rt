@@ -1,10 +1,11 @@
-// A transaction's life on its core: begun, told that it was set back, a card joins a set, struck, over; and whether two conflict.
+// A transaction's life on its core: begun, told that it was set back, a card joins a set, struck, over; whether it only looks; and whether
+// two conflict.
 // `begin` asks for a list of at most 8 jobs, `abort` that the setbacks can rise.
 use crate::Core;
 use crate::inside::jobs::running_of;
 ghost use mathlib.Core.Path.{_≡_};
 ghost use Prim.Native.Nat.{_≤_, _<_};
-ghost use Rattle.core.specs.Life.{withTransaction, unmarked, withRead, withWrite, conflicting, conflictsBelow, isStruck, aborted, over};
+ghost use Rattle.core.specs.Life.{withTransaction, unmarked, withRead, withWrite, conflicting, conflictsBelow, isStruck, aborted, over, onlyLooks};
 ghost use Rattle.core.specs.Parts.{mostJobs};
 
 // The running job's transaction begins, with this ticket.
@@ -48,6 +49,13 @@ pub fn add_write(mut k: Core, d: usize) -> Core
 {
     k.writes = objset::insert(k.writes, d);
     k
+}
+
+// Whether it only looks (document 02, paper 4): the write set of its present attempt is empty.
+pub fn only_looks(k: Core) -> bool
+    ensures { λ r. ⌜ r ≡ onlyLooks k ⌝ }
+{
+    objset::is_empty(k.writes)
 }
 
 // Whether two transactions conflict: the write set of either meets the data set of the other.

@@ -17,7 +17,7 @@ use Rattle.machine.specs.Record.{coreAt}
 use Rattle.core.specs.Life as Life
 use Rattle.machine.specs.Rule as Rule
 use Rattle.machine.specs.Rule.{World}
-use Rattle.machine.proofs.Case.{Lent-ok, struck-conflicts, not-ahead}
+use Rattle.machine.proofs.Case.{Lent-ok, not-ahead}
 use Rattle.machine.specs.Words.{Deed, commits, inProgress, births, born, any, wrote, crosses, attempt, strikes, struck}
 use Rattle.machine.specs.Serial.{effect, serial, version}
 use Rattle.machine.proofs.Run.Orderly.{Committing}
@@ -154,8 +154,8 @@ module _ {o : ℕ} {w : World} {h : List Deed} (a : Agree o w h) (c : ℕ) (ok :
               let same : attempt (x ∷ h) e ≡ attempt h e = ap (λ (v : View). v .tried) (view-other x h e q s) in
               rw same (a .same-pending e d l (rw same at t))
 
-  -- nobody ahead is in conflict, so whoever is struck is later
-  pub finds-commits : coreAt (w .machine) c .zombie ≡ false → Rule.blocked (w .machine) c ≡ false → Committing h c n
+  -- nobody ahead is in conflict, or nothing was written: whoever is struck is later
+  pub finds-commits : coreAt (w .machine) c .zombie ≡ false → Rule.mustWait (w .machine) c ≡ false → Committing h c n
   finds-commits z free =
       record {
         acting = acting a ok z;
@@ -178,6 +178,5 @@ module _ {o : ℕ} {w : World} {h : List Deed} (a : Agree o w h) (c : ℕ) (ok :
           let going : inProgress h b ≡ true = both-right (not (eqb c b)) (inProgress h b) (both-left (not (eqb c b) && inProgress h b) _ s) in
           let here : inProgress h c ≡ true = sym (a .each-core c .same-going) ∙ ok .active in
           let active : coreAt (w .machine) b .active ≡ true = a .each-core b .same-going ∙ going in
-          let clash = struck-conflicts (coreAt (w .machine) c) (coreAt (w .machine) b) (record-strikes b other ∙ s) in
-          let order = not-ahead (w .machine) c b free (few b active) active clash in
+          let order = not-ahead (w .machine) c b free (few b active) (record-strikes b other ∙ s) in
           omega (arith, order, a .each-core b .same-order going, a .each-core c .same-order here, born-apart h c b here going other)

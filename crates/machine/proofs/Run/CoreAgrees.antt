@@ -1,7 +1,7 @@
 -- The record of one core says what the words say of it.
 use mathlib.Core.Path.{_≡_, refl, sym, ap, ap₂, _∙_, fun-ext}
-use mathlib.Core.Bool.{Bool, true, false, cond, _&&_, _||_, or-comm, or-assoc, true≢false}
-use mathlib.Core.List.{List, []}
+use mathlib.Core.Bool.{Bool, true, false, cond, not, _&&_, _||_, or-comm, or-assoc, true≢false}
+use mathlib.Core.List.{List, [], _∷_}
 use Prim.Native.Nat.{ℕ, _+_, _^_, _<_}
 use native.Mathlib.Nat.{zero-add}
 use native.Mathlib.Omega.{arith}
@@ -9,12 +9,12 @@ use lib.Dec.{eqb}
 use borrow.Author.Tests.{eqb-true, eqb-false, eq-eqb, ne-eqb}
 use Rattle.objset.specs.Objset.{has, some, added, meeting}
 use Rattle.objset.proofs.Digits.{has-zero}
-use Rattle.objset.proofs.Laws.{some-one, both-right, has-joined, has-added, added-fits}
+use Rattle.objset.proofs.Laws.{some-one, both-right, filled-one, has-joined, has-added, added-fits}
 use Rattle.core.specs.declared.Core.{Core}
 use Rattle.core.specs.declared.Job.{Job}
 use Rattle.core.specs.Parts.{dataSet}
-use Rattle.core.specs.Life.{withList, withSets, unmarked, aborted}
-use Rattle.machine.specs.Words.{Deed, reads, writes, any, touched, wrote, crosses}
+use Rattle.core.specs.Life.{withList, withSets, unmarked, aborted, onlyLooks}
+use Rattle.machine.specs.Words.{Deed, begins, reads, writes, waits, commits, told, gives, other, stores, storesAny, any, touched, wrote, wroteNothing, crosses}
 use Rattle.machine.proofs.Run.View.{View, further, Over}
 
 pub record CoreAgrees (k : Core) (v : View) : Type 0 where
@@ -116,6 +116,35 @@ pub meets-crosses : (k j : Core) (u v : View) → CoreAgrees k u → CoreAgrees 
 unfolding meeting crosses
 meets-crosses k j u v a b =
     ap (some 64) (fun-ext (λ d. ap₂ _&&_ (a .same-writes d) (has-joined (j .reads) (j .writes) d (b .reads-fit) (b .writes-fit) ∙ b .same-data d)))
+
+-- ---- an attempt that only looks
+
+store-any : (x : Deed) (d : ℕ) → stores x d ≡ true → storesAny x ≡ true
+store-any (begins b) d p = p
+store-any (reads b e v) d p = p
+store-any (writes b e v) d p = refl
+store-any (waits b e) d p = p
+store-any (commits b n) d p = p
+store-any (told b) d p = p
+store-any (gives b) d p = p
+store-any other d p = p
+
+-- one that has written a card has written something
+wrote-any : (a : List Deed) (d : ℕ) → wrote a d ≡ true → any storesAny a ≡ true
+unfolding wrote any
+wrote-any [] d p = p
+wrote-any (x ∷ a) d p = go (stores x d) refl p (wrote-any a d)
+  where
+    go : (s : Bool) → stores x d ≡ s → (s || wrote a d) ≡ true → (wrote a d ≡ true → any storesAny a ≡ true) → (storesAny x || any storesAny a) ≡ true
+    go true s q more = ap (λ (b : Bool). b || any storesAny a) (store-any x d s)
+    go false s q more = ap (λ (b : Bool). storesAny x || b) (more q) ∙ or-comm (storesAny x) true
+
+-- where the write set holds a card, the attempt has written something
+pub writes-something : (k : Core) (v : View) → CoreAgrees k v → onlyLooks k ≡ false → wroteNothing (v .tried) ≡ false
+unfolding wroteNothing
+writes-something k v a wrote =
+    let d = filled-one (k .writes) wrote in
+    ap not (wrote-any (v .tried) (d .0) (sym (a .same-writes (d .0)) ∙ d .2))
 
 -- a void attempt crosses nothing
 pub void-crosses : (a b : List Deed) → b ≡ [] → crosses a b ≡ false

@@ -5,7 +5,7 @@ use mathlib.Core.Bool.{true, false}
 use mathlib.Core.List.{List, [], _∷_}
 use Prim.Native.Nat.{ℕ, suc, _≤_, _<_}
 use lib.ListN.{getD}
-use Rattle.machine.specs.Words.{Deed, begins, reads, writes, waits, commits, told, gives, other, inProgress, born, attempt, strikes, conflict, struck, setBacks}
+use Rattle.machine.specs.Words.{Deed, begins, reads, writes, waits, commits, told, gives, other, inProgress, born, wroteNothing, attempt, strikes, conflict, struck, setBacks}
 use Rattle.machine.specs.Serial.{effect, serial}
 
 -- a transaction is in progress on core c and every strike on it has been told
@@ -25,6 +25,7 @@ pub record Waiting (h : List Deed) (c e : ℕ) : Type 0 where
   pub going : inProgress h e ≡ true
   pub earlier : born h e < born h c
   pub in-conflict : conflict h c e ≡ true
+  pub has-written : wroteNothing (attempt h c) ≡ false
   pub first : (b : ℕ) → inProgress h b ≡ true → born h b < born h c → conflict h c b ≡ true → born h e ≤ born h b
 
 pub record Committing (h : List Deed) (c n : ℕ) : Type 0 where

@@ -25,6 +25,7 @@ served o h a =
           let w = at-moment late (waits c e ∷ early) q .0 in
           (w .going, w .earlier, w .in-conflict);
       none-before = λ late early c e b q. at-moment late (waits c e ∷ early) q .0 .first b;
+      no-looker-waits = λ late early c e q. at-moment late (waits c e ∷ early) q .0 .has-written;
       reported = λ late early c n e.
           let k = at-moment late (commits c n ∷ early) e .0 in
           (k .reports, k .reports ∙ k .acting .all-told);

@@ -12,7 +12,7 @@ use borrow.Author.Tests.{ltb-true, ltb-false, lt-ltb}
 use Rattle.core.specs.declared.Core.{Core}
 use Rattle.core.specs.declared.Answer.{Answer}
 use Rattle.machine.specs.declared.Machine.{Machine}
-use Rattle.core.specs.Life.{conflicting}
+use Rattle.core.specs.Life.{onlyLooks, conflicting}
 use Rattle.machine.specs.Answers.{kind, values}
 use Rattle.core.specs.Parts.{noCore, blankCore}
 use Rattle.machine.specs.Record.{coreAt, machineOf, sizesInRange}
@@ -25,7 +25,7 @@ use Rattle.machine.specs.Claims.{Run, fresh, then}
 use Rattle.machine.proofs.Sound.Passed.{in-range}
 use Rattle.machine.proofs.Run.Orderly.{Acting, Waiting, Allowed, Orderly}
 use Rattle.machine.proofs.Run.View.{view}
-use Rattle.machine.proofs.Run.CoreAgrees.{CoreAgrees, agrees-idle, meets-crosses}
+use Rattle.machine.proofs.Run.CoreAgrees.{CoreAgrees, agrees-idle, meets-crosses, writes-something}
 use Rattle.machine.proofs.Run.Agreement.{Agree, inside, acting, refused-other, told-amounts, agree-other, step-list, step-told, step-read, read-alone, step-write, step-waits, step-gives, step-begins}
 use Rattle.machine.proofs.Run.AgreementCommit.{step-commits, finds-commits}
 
@@ -71,14 +71,15 @@ module _ {o : ℕ} {w : World} {h : List Deed} (a : Agree o w h) (c : ℕ) (goin
           absurd (true≢false (sym (a .each-core b .same-going ∙ there)
           ∙ ap (λ (k : Core). k .active) (List·getD-eq-default (m .core) noCore (omega (arith, a .cores-long, ltb-false b 16 q)))))
 
-  finds-waits : (e : ℕ) → Acting h c → First m c e → Waiting h c e
-  finds-waits e acting f =
+  finds-waits : (e : ℕ) → Acting h c → onlyLooks (coreAt m c) ≡ false → First m c e → Waiting h c e
+  finds-waits e acting wrote f =
       let found = found-ahead e (f .passes) in
       record {
         acting = acting;
         going = found .0;
         earlier = found .1;
         in-conflict = found .2;
+        has-written = writes-something (coreAt m c) (view h c) (a .each-core c) wrote;
         first =
             λ b there less clash.
             omega
@@ -103,8 +104,8 @@ step a (is-told {call = call} {c = c} asks ok z) =
 step a (is-valued {c = c} {d = d} ok hd z) =
     (record { acting = acting a ok z; is-object = omega (arith, a .same-objects); alone = read-alone a c d ok hd }, step-read a c d _ ok hd z)
 step a (is-written {c = c} {d = d} {v = v} ok hd z) = ((acting a ok z, omega (arith, a .same-objects)), step-write a c d v ok hd z)
-step a (is-waiting {c = c} {e = e} ok z ahead) =
-    (finds-waits a c (ok .active) e (acting a ok z) ahead, step-waits a c e)
+step a (is-waiting {c = c} {e = e} ok z wrote ahead) =
+    (finds-waits a c (ok .active) e (acting a ok z) wrote ahead, step-waits a c e)
 step a (is-through {c = c} ok z free) = (finds-commits a c ok z free, step-commits a c ok)
 step a (is-ended {c = c} ok going) = ((inside a ok, sym (a .each-core c .same-going) ∙ going), step-gives a c ok)
 step a (is-finished {c = c} ok job idle) = (tt, step-list a c _ _ ok)

@@ -8,7 +8,7 @@ use Rattle.machine.specs.declared.Outcome.{Outcome}
 use Rattle.core.specs.declared.Answer.{Answer}
 use Rattle.core.specs.declared.Answer.the-variants.{Ready, Value}
 use Rattle.machine.specs.Rule as Rule
-use Rattle.machine.specs.Rule.{World, lent, left, Call, Read, rule}
+use Rattle.machine.specs.Rule.{World, lent, left, Call, Read, Commit, rule}
 use Rattle.machine.specs.Follows.{Follows}
 use Rattle.machine.proofs.Case.{Case, is-refused, is-released, is-begun, is-told, is-valued, is-written, is-waiting, is-through, is-ended, is-finished, case-of, setup-case}
 use Rattle.machine.specs.Words.{Event, Deed, deeds}
@@ -16,7 +16,10 @@ use Rattle.machine.specs.Serial.{serial, version}
 use Rattle.machine.specs.Claims.{Run, fresh, then, worked, ByTheRule, Claim, EveryRun}
 use Rattle.machine.proofs.Run.Served.{served}
 use Rattle.machine.proofs.Run.Serially.{serially}
+use Rattle.machine.specs.Inside.{WellFormedWorld}
+use Rattle.machine.proofs.Sound.Keeps.{keeps-good, setup-good}
 use Rattle.machine.proofs.Run.Agreement.{Agree}
+use Rattle.machine.proofs.Run.Looking.{looker-through}
 use Rattle.machine.proofs.Run.Steps.{agree-fresh, run-agrees}
 
 -- ---- a run cut in two
@@ -73,10 +76,16 @@ read-version {w = w} {h = h} g (is-valued {d = e} ok he z) c d v n p q =
     let there : getD (w .machine .versions) e 0 ≡ n = cc in
     sym there ∙ g .same-versions e (omega (arith, g .same-objects)) ∙ ap (version h) same
 read-version g (is-written ok he z) c d v n p q = let z : _≡_ {A = ℕ} 0 1 = cc in absurd (omega arith)
-read-version g (is-waiting ok z ahead) c d v n p q = let z : _≡_ {A = ℕ} 0 1 = cc in absurd (omega arith)
+read-version g (is-waiting ok z wrote ahead) c d v n p q = let z : _≡_ {A = ℕ} 0 1 = cc in absurd (omega arith)
 read-version g (is-through ok z free) c d v n p q = let z : _≡_ {A = ℕ} 0 1 = cc in absurd (omega arith)
 read-version g (is-ended ok going) c d v n p q = let z : _≡_ {A = ℕ} 0 1 = cc in absurd (omega arith)
 read-version g (is-finished ok job idle) c d v n p q = let z : _≡_ {A = ℕ} 0 1 = cc in absurd (omega arith)
+
+-- ---- every world that a run passes through is good
+
+run-good : {w₀ w : World} {es : List Event} → WellFormedWorld w₀ → Run w₀ es w → WellFormedWorld w
+run-good g fresh = g
+run-good g (then call a run f) = keeps-good (case-of f) (run-good g run)
 
 -- ---- the whole claim
 
@@ -92,6 +101,14 @@ whole-run cores objects committed pending ready {es} {w} run =
     record {
       by-the-rule = by-the-rule run;
       served = served objects (deeds es) o;
+      looking =
+          record {
+            looker-commits =
+                λ late early c x p.
+                let r = run-through late (record { call = Commit c; answer = x } ∷ early) run p in
+                let l = last-call (r .1) (record { call = Commit c; answer = x }) early refl in
+                looker-through (run-good (setup-good cores objects committed pending ready) (l .1)) (run-agrees a (l .1)) c (l .2);
+          };
       serially = rw same (serially objects (deeds es) (a .objects-few) o);
       same-cards =
           λ late early p.

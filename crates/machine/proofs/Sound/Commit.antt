@@ -14,9 +14,9 @@ use Rattle.machine.specs.declared.Machine.{Machine}
 use Rattle.core.specs.declared.Core.{Core}
 use Rattle.core.specs.Parts.{noCore}
 use Rattle.machine.specs.Record.{coreAt}
-use Rattle.machine.specs.Rule.{blocked, cleared, changed, through}
+use Rattle.machine.specs.Rule.{mustWait, cleared, changed, through}
 use Rattle.core.specs.Life.{isStruck, struckBy, over}
-use Rattle.machine.proofs.Case.{struck-conflicts, not-ahead}
+use Rattle.machine.proofs.Case.{not-ahead}
 use Rattle.machine.proofs.Sound.Turns.{Turns, turns-left}
 use Rattle.core.specs.Formed.{Formed-core}
 use Rattle.machine.specs.Inside.{Formed}
@@ -26,12 +26,12 @@ use Rattle.core.proofs.Kept.{idle-formed, over-tidy, struck-keeps, struck-abort
 use Rattle.machine.proofs.Entries.{cleared-at, cleared-long, changed-at, changed-long}
 use Rattle.machine.proofs.Sound.OneCore.{Whole}
 
--- the transaction of core c has no contender, so each one that its commit strikes has a later ticket
-pub struck-later : (m : Machine) (c e : ℕ) → Standing m → c < 16 → e < 16 → (e ≡ c → ⊥) → blocked m c ≡ false → coreAt m c .active ≡ true
+-- the transaction of core c has no contender or only looks, so each one that its commit strikes has a later ticket
+pub struck-later : (m : Machine) (c e : ℕ) → Standing m → c < 16 → e < 16 → (e ≡ c → ⊥) → mustWait m c ≡ false → coreAt m c .active ≡ true
     → isStruck (coreAt m c .writes) (coreAt m e) ≡ true → ltb (coreAt m c .ticket) (coreAt m e .ticket) ≡ true
 struck-later m c e s lc le d free on hit =
     let also = both-left (coreAt m e .active) _ hit in
-    let behind = not-ahead m c e free le also (struck-conflicts (coreAt m c) (coreAt m e) hit) in
+    let behind = not-ahead m c e free le hit in
     lt-ltb (coreAt m c .ticket) (coreAt m e .ticket) (omega (arith, behind, s .turns .differ e c le lc d also on))
 
 module _ (m : Machine) (c : ℕ) (here : c < m .cores) (w : Whole m) where
@@ -82,7 +82,7 @@ module _ (m : Machine) (c : ℕ) (here : c < m .cores) (w : Whole m) where
       go true = omega (arith, s .versions-bounded d l)
       go false = omega (arith, s .versions-bounded d l)
 
-  after-turns : blocked m c ≡ false → coreAt m c .active ≡ true
+  after-turns : mustWait m c ≡ false → coreAt m c .active ≡ true
       → Turns (m .cores) (m .tickets) (m .commits + 1 + m .«give_ups») (λ e. after e .active) (λ e. after e .ticket) (λ e. after e .aborts)
   after-turns free on =
       subst (λ (n : ℕ). Turns (m .cores) (m .tickets) n (λ e. after e .active) (λ e. after e .ticket) (λ e. after e .aborts)) (omega arith)
@@ -96,7 +96,7 @@ module _ (m : Machine) (c : ℕ) (here : c < m .cores) (w : Whole m) where
       (λ d. absurd (d refl))
       (λ e l o d. struck-aborts ws (coreAt m e) (ltb (coreAt m c .ticket) (coreAt m e .ticket)) (struck-later m c e s inside l o free on))))
 
-  pub through-whole : blocked m c ≡ false → coreAt m c .active ≡ true → (committed pending : List ℕ)
+  pub through-whole : mustWait m c ≡ false → coreAt m c .active ≡ true → (committed pending : List ℕ)
       → Whole (through (record { machine = m; committed = committed; pending = pending }) c .world .machine)
   unfolding through
   through-whole free on committed pending =

@@ -110,7 +110,7 @@ keeps-good {w} (is-written {c} {d} {v} ok card free) g =
     unfold written in
     good (written-whole w c (whole g) (ok .core-ok .is-core) d v card (ok .active) free) (g .world-sound .committed-long)
     (length-set (w .pending) (slot (w .machine) c d) v ∙ g .world-sound .pending-long)
-keeps-good {w} (is-waiting ok free rival) g = g
+keeps-good {w} (is-waiting ok free wrote rival) g = g
 keeps-good {w} (is-through {c} ok free clear) g =
     unfold through in
     good (through-whole (w .machine) c (ok .core-ok .is-core) (whole g) clear (ok .active) (w .committed) (w .pending))

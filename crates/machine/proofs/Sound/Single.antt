@@ -10,7 +10,7 @@ use borrow.Author.Tests.{eq-eqb}
 use Rattle.machine.specs.Record.{coreAt}
 use Rattle.machine.specs.Sound.{sound}
 use Rattle.machine.specs.Answers.{refusalNumber}
-use Rattle.machine.specs.Rule.{World, Result, unlessLent, setBackTold, valued, read, written, write, blocked, through, waiting, commit, rule, Call, Release, Begin, Read, Write, Commit, GiveUp, Finish}
+use Rattle.machine.specs.Rule.{World, Result, unlessLent, setBackTold, valued, read, written, write, mustWait, through, waiting, commit, rule, Call, Release, Begin, Read, Write, Commit, GiveUp, Finish}
 use Rattle.machine.specs.Refusals.{at, refusals, applies, Smallest}
 use Rattle.machine.proofs.Refusals.{smallest-given}
 use Rattle.machine.specs.Inside.{WellFormedWorld}
@@ -74,7 +74,7 @@ only-write-pending w (Write c d v) p = absurd (true≢false p)
 only-write-pending w (Commit c) p =
     lent-keeps pending w _ _
     (either-keeps pending w (coreAt (w .machine) c .zombie) (setBackTold w c) _ refl
-    (either-keeps pending w (blocked (w .machine) c) (waiting w c) (through w c) refl refl))
+    (either-keeps pending w (mustWait (w .machine) c) (waiting w c) (through w c) refl refl))
 only-write-pending w (GiveUp c) p = refl
 only-write-pending w (Finish c) p = refl
 

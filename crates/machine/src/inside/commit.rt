@@ -11,6 +11,7 @@ use core::calls::settle;
 use core::inside::transaction::abort;
 use core::inside::transaction::holds_back;
 use core::inside::transaction::is_struck;
+use core::inside::transaction::only_looks;
 use objset::OBJECTS;
 ghost use mathlib.Core.Path.{_≡_};
 ghost use mathlib.Core.Bool.{true, cond};
@@ -23,11 +24,14 @@ ghost use Rattle.machine.specs.Inside.{SoundWorld};
 ghost use Rattle.machine.specs.Rule.{lent, left, changed, commit as commitRule};
 ghost use Rattle.machine.specs.OneCore.{firstHolding, struckAll};
 
-// The core whose transaction is first ahead of core k's: of those that hold it back the one of smallest ticket; NOBODY where none does.
-// `below` is the ticket to beat. The loop goes over all cores: with a constant bound the compiler makes no copy of the record here.
+// The core that core k's transaction waits for at its commit: of those that hold it back the one of smallest ticket; NOBODY where none does,
+// or where it only looks. `below` is the ticket to beat. The loop goes over all cores: with a constant bound the compiler makes no copy of the record here.
 pub fn ahead_of(m: Machine, k: Core) -> u8
     ensures { λ r. ⌜ r ≡ firstHolding (m .core) k ⌝ }
 {
+    if only_looks(k) {
+        return NOBODY;
+    }
     let mut ahead: u8 = NOBODY;
     let mut below = k.ticket;
     let mut e: u8 = 0;

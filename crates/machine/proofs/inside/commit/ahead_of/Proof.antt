@@ -1,9 +1,10 @@
--- `machine::inside::commit::ahead_of` meets its contract: after the turn of core e, it is the first of the cores below it.
+-- `machine::inside::commit::ahead_of` meets its contract: nobody for one that only looks; else, after the turn of core e, the first of the cores
+-- below it.
 use mathlib.Core.Path.{sym, subst₂, _∙_}
 use mathlib.Core.Logic.{⊎-elim}
 use Prim.Native.Nat.{_+_, _-_, _≤_}
 use native.Mathlib.Omega.{arith}
-use Rattle.machine.proofs.Least.{Looked, looked-none, looked-here, looked-past, looked-all}
+use Rattle.machine.proofs.Least.{Looked, looked-none, looked-here, looked-past, looked-at-nobody, looked-all}
 use borrow.Author.Needs.{needs}
 use Rattle.machine.proofs.inside.commit.ahead_of.Statement.{statement}
 use Rattle.machine.proofs.inside.commit.ahead_of.Tie as tie
@@ -14,8 +15,14 @@ Inv-loop k m ahead₀ below₀ e₀ ahead below e = (e ≤ 16) × Looked (m .cor
 abbrev μ-loop : tie.MeasureT-loop
 μ-loop k m ahead₀ below₀ e₀ ahead below e = 16 - e
 
+only-looks-requires : tie.Need-only-looks-requires Inv-loop μ-loop
+only-looks-requires c κs = search needs
+
+returns : tie.Need-returns Inv-loop μ-loop
+returns c = looked-at-nobody (c .before .before .args .t1 .core) (c .before .before .args .k) (sym (c .before .only-looks .ensures) ∙ c .if1 .taken)
+
 loop-holds : tie.Need-loop-holds Inv-loop μ-loop
-loop-holds c = (omega arith, looked-none (c .args .t1 .core) (c .args .k))
+loop-holds c = (omega arith, looked-none (c .before .before .args .t1 .core) (c .before .before .args .k))
 
 cast-other : tie.Need-cast-other Inv-loop μ-loop
 cast-other c = search needs
@@ -37,7 +44,7 @@ loop-less c = search needs
 
 loop-again : tie.Need-loop-again Inv-loop μ-loop
 loop-again c =
-    let start = c .before .before .before .before .before in
+    let start = c .before .before .before .before .before .before .before in
     let at = c .before .before .before .before .loop in
     let tested = sym (c .before .holds-back .ensures) in (
       omega (arith, c .before .before .before .loop-test .taken),
@@ -48,11 +55,14 @@ loop-again c =
           (λ w.
           subst₂ (Looked (start .args .t1 .core) (start .args .k) (at .e + 1)) (sym (w .1)) (sym (w .2))
           (looked-past (start .args .t1 .core) (start .args .k) (at .e) (at .e + 1) (at .ahead) (at .below) (omega arith) (at .inv .1) (tested ∙ w .0 .left)))
-          (c .if1 .came),
+          (c .if2 .came),
     )
 
-returns : tie.Need-returns Inv-loop μ-loop
-returns c = looked-all _ _ _ _ _ (omega (arith, c .loop-test .left, c .before .loop .inv .0)) (c .before .loop .inv .1)
+returns-2 : tie.Need-returns-2 Inv-loop μ-loop
+returns-2 c =
+    let tested = c .before .before in
+    looked-all _ _ _ _ _ (sym (tested .before .only-looks .ensures) ∙ tested .if1 .left) (omega (arith, c .loop-test .left, c .before .loop .inv .0))
+    (c .before .loop .inv .1)
 
 pub ahead-of-spec : {M : Type 1} → statement M
 ahead-of-spec =
@@ -60,6 +70,8 @@ ahead-of-spec =
     (tie.spec
     Inv-loop
     μ-loop
+    only-looks-requires
+    returns
     loop-holds
     cast-other
     mul-other
@@ -68,4 +80,4 @@ ahead-of-spec =
     add-e
     loop-less
     loop-again
-    returns)
+    returns-2)
