@@ -1,9 +1,9 @@
--- The starred examples of document 01, K, and the case of paper 1, as one table: a setup, the calls after it with their answers, and the cards at the
--- end. One computed test proves the whole table.
+-- The starred examples of document 01, K, and the cases of papers 1 and 4, as one table: a setup, the calls after it with their answers, and the cards
+-- at the end. One computed test proves the whole table.
 use mathlib.Core.Path.{_≡_, refl}
 use mathlib.Core.Bool.{Bool, true, _&&_}
 use mathlib.Core.List.{List, [], _∷_, _++_}
-use Prim.Native.Nat.{ℕ, _*_}
+use Prim.Native.Nat.{ℕ, zero, suc, _+_, _*_}
 use lib.ListN.{replicate}
 use Rattle.objset.specs.Objset.{has, collect, some, each, none, isEmpty, added, joined, meeting, below}
 use Rattle.core.specs.declared.Answer.{Answer}
@@ -202,11 +202,117 @@ firstInTheWay =
       cards = 5 ∷ 0 ∷ [];
     }
 
+-- ---- paper 4
+
+-- a call for each of n cards from card d on, with its answer
+each-card : (ℕ → Expected) → ℕ → ℕ → List Expected
+each-card f d zero = []
+each-card f d (suc n) = f d ∷ each-card f (suc d) n
+
+-- a display on core 1 reads ten cards that the earlier one on core 0 has written: it commits at once, with the old values; the other's
+-- later commit does not set it back, and its next frame reads the new ones
+display : Example
+display =
+    record {
+      cores = 2;
+      objects = 10;
+      ready = Ready;
+      calls =
+          bothBegun ++ each-card (λ d. Write 0 d (d + 30) ⇝ Written) 0 10 ++ each-card (λ d. Read 1 d ⇝ Value 0 0) 0 10
+          ++ ((Commit 1 ⇝ Committed 0) ∷ (Commit 0 ⇝ Committed 0) ∷ (Commit 1 ⇝ Refused 9) ∷ (Begin 1 ⇝ Begun 2) ∷ [])
+          ++ each-card (λ d. Read 1 d ⇝ Value (d + 30) 1) 0 10 ++ ((Commit 1 ⇝ Committed 0) ∷ []);
+      cards = 30 ∷ 31 ∷ 32 ∷ 33 ∷ 34 ∷ 35 ∷ 36 ∷ 37 ∷ 38 ∷ 39 ∷ [];
+    }
+
+-- the display is begun before the core that writes what it has read is through: it is told, reads again and commits, with one setback
+markedLooker : Example
+markedLooker =
+    record {
+      cores = 2;
+      objects = 2;
+      ready = Ready;
+      calls =
+          bothBegun
+          ++ ((Read 1 0 ⇝ Value 0 0) ∷ (Write 0 0 5 ⇝ Written) ∷ (Commit 0 ⇝ Committed 0) ∷ (Commit 1 ⇝ SetBack) ∷ (Read 1 0 ⇝ Value 5 1)
+          ∷ (Commit 1 ⇝ Committed 1) ∷ []);
+      cards = 5 ∷ 0 ∷ [];
+    }
+
+-- and one that asks to commit again at once, without reading again
+markedTwice : Example
+markedTwice =
+    record {
+      cores = 2;
+      objects = 2;
+      ready = Ready;
+      calls =
+          bothBegun
+          ++ ((Read 1 0 ⇝ Value 0 0) ∷ (Write 0 0 5 ⇝ Written) ∷ (Commit 0 ⇝ Committed 0) ∷ (Commit 1 ⇝ SetBack) ∷ (Commit 1 ⇝ Committed 1) ∷ []);
+      cards = 5 ∷ 0 ∷ [];
+    }
+
+-- a later writer of a card that earlier ones have only looked at waits for them, for the one on core 2 first; one of them commits past
+-- the writer, and past the other
+laterWriter : Example
+laterWriter =
+    record {
+      cores = 3;
+      objects = 1;
+      ready = Ready;
+      calls =
+          (Release 0 1 90 ⇝ Running) ∷ (Release 1 2 90 ⇝ Running) ∷ (Release 2 3 90 ⇝ Running) ∷ (Begin 2 ⇝ Begun 0) ∷ (Begin 0 ⇝ Begun 1)
+          ∷ (Begin 1 ⇝ Begun 2) ∷ (Read 2 0 ⇝ Value 0 0) ∷ (Read 0 0 ⇝ Value 0 0) ∷ (Write 1 0 5 ⇝ Written) ∷ (Commit 1 ⇝ Waits 2)
+          ∷ (Commit 0 ⇝ Committed 0) ∷ (Commit 1 ⇝ Waits 2) ∷ (Read 2 0 ⇝ Value 0 0) ∷ (Commit 2 ⇝ Committed 0) ∷ (Commit 1 ⇝ Committed 0) ∷ [];
+      cards = 5 ∷ [];
+    }
+
+-- the one on core 1 has written and waits; set back, it comes back as one that only looks, and commits past the one on core 2, which has
+-- written what it reads
+wroteBefore : Example
+wroteBefore =
+    record {
+      cores = 3;
+      objects = 2;
+      ready = Ready;
+      calls =
+          (Release 0 1 90 ⇝ Running) ∷ (Release 1 2 90 ⇝ Running) ∷ (Release 2 3 90 ⇝ Running) ∷ (Begin 0 ⇝ Begun 0) ∷ (Begin 2 ⇝ Begun 1)
+          ∷ (Begin 1 ⇝ Begun 2) ∷ (Write 0 0 5 ⇝ Written) ∷ (Write 2 1 6 ⇝ Written) ∷ (Read 1 0 ⇝ Value 0 0) ∷ (Write 1 1 7 ⇝ Written)
+          ∷ (Commit 1 ⇝ Waits 0) ∷ (Commit 0 ⇝ Committed 0) ∷ (Commit 1 ⇝ SetBack) ∷ (Read 1 1 ⇝ Value 0 0) ∷ (Commit 1 ⇝ Committed 1)
+          ∷ (Commit 2 ⇝ Committed 0) ∷ [];
+      cards = 5 ∷ 6 ∷ [];
+    }
+
+-- one that did nothing commits
+didNothing : Example
+didNothing =
+    record {
+      cores = 2;
+      objects = 1;
+      ready = Ready;
+      calls = bothBegun ++ ((Write 0 0 5 ⇝ Written) ∷ (Commit 1 ⇝ Committed 0) ∷ (Commit 0 ⇝ Committed 0) ∷ []);
+      cards = 5 ∷ [];
+    }
+
+-- one that wrote the value which the card already had does not only look: it waits, and its commit raises the version
+sameValue : Example
+sameValue =
+    record {
+      cores = 2;
+      objects = 1;
+      ready = Ready;
+      calls =
+          bothBegun
+          ++ ((Read 0 0 ⇝ Value 0 0) ∷ (Write 1 0 0 ⇝ Written) ∷ (Commit 1 ⇝ Waits 0) ∷ (Commit 0 ⇝ Committed 0) ∷ (Commit 1 ⇝ Committed 0)
+          ∷ (Begin 0 ⇝ Begun 2) ∷ (Read 0 0 ⇝ Value 0 1) ∷ []);
+      cards = 0 ∷ [];
+    }
+
 pub examples : List Example
 examples =
     (exampleA ∷ exampleB) ++ exampleC
     ++ (exampleD ∷ exampleE ∷ exampleF ∷ exampleG ∷ exampleH ∷ exampleI ∷ exampleJ ∷ exampleK ∷ firstInTheWay ∷ [])
+    ++ (display ∷ markedLooker ∷ markedTwice ∷ laterWriter ∷ wroteBefore ∷ didNothing ∷ sameValue ∷ [])
 
 pub all-hold : allHold examples ≡ true
-unfolding examples exampleA refusedSetup acceptedSetup exampleB exampleC exampleD exampleE exampleF bothBegun exampleG exampleH exampleI exampleJ exampleK firstInTheWay allHold holds follows rule setup first unless unlessLent released release begun begin setBackTold accessRefusal valueRead valued read written write contender blocked leastBy struckBy cleared changed through commitRefusal commit ended giveUp finished finish kind values sameList sameAnswer tally least running inRange setsWithin ownerListed idleClear zombieEmpty fewJobs unusedJobs lackedCores lackedObjects ownerFirst ticketsDiffer ticketsGiven ticketsCounted versionsBounded smallerTickets abortsBounded sound has collect some each none isEmpty added joined meeting below
+unfolding examples exampleA refusedSetup acceptedSetup exampleB exampleC exampleD exampleE exampleF bothBegun exampleG exampleH exampleI exampleJ exampleK firstInTheWay each-card display markedLooker markedTwice laterWriter wroteBefore didNothing sameValue allHold holds follows rule setup first unless unlessLent released release begun begin setBackTold accessRefusal valueRead valued read written write contender blocked leastBy struckBy cleared changed through commitRefusal commit ended giveUp finished finish kind values sameList sameAnswer tally least running inRange setsWithin ownerListed idleClear zombieEmpty fewJobs unusedJobs lackedCores lackedObjects ownerFirst ticketsDiffer ticketsGiven ticketsCounted versionsBounded smallerTickets abortsBounded sound has collect some each none isEmpty added joined meeting below
 all-hold = refl

@@ -52,11 +52,12 @@ opening =
     (Release 0 1 90 ⇝ Running) ∷ (Release 1 2 90 ⇝ Running) ∷ (Begin 0 ⇝ Begun 0) ∷ (Begin 1 ⇝ Begun 1) ∷ (Read 1 0 ⇝ Value 0 0)
     ∷ (Write 0 0 5 ⇝ Written) ∷ (Commit 0 ⇝ Committed 0) ∷ []
 
--- T's begin, a call that is refused, and five rounds of T and E: E is told, writes, and commits, which strikes T; T is told, and reads
+-- T's begin, a call that is refused, and five rounds of T and E: T writes, so that it has to wait; E is told, writes, and commits, which
+-- strikes T; T is told, and reads
 unfoldable pub tight : List Expected
 tight =
     (Begin 0 ⇝ Begun 2) ∷ (Read 1 1 ⇝ Refused 5)
-    ∷ (Read 0 0 ⇝ Value 5 1) ∷ (Read 1 0 ⇝ SetBack)
+    ∷ (Write 0 0 7 ⇝ Written) ∷ (Read 1 0 ⇝ SetBack)
     ∷ (Write 1 0 6 ⇝ Written) ∷ (Commit 0 ⇝ Waits 1)
     ∷ (Commit 0 ⇝ Waits 1) ∷ (Commit 1 ⇝ Committed 1)
     ∷ (Commit 0 ⇝ SetBack)

@@ -1,7 +1,7 @@
 -- The words of demands 2 and 3, computed call by call over two runs of two cores: case A of document 01 and a tight run (Played.antt).
 -- What each word says stands there as it is worked by hand from document 01; each table is one computed test.
 use mathlib.Core.Path.{_≡_, refl}
-use mathlib.Core.Bool.{Bool, true, false, cond}
+use mathlib.Core.Bool.{Bool, true, false, cond, _&&_}
 use mathlib.Core.List.{List, [], _∷_, _++_, map}
 use Prim.Native.Nat.{ℕ, zero, suc, _-_}
 use lib.ListN.{length, take, drop}
@@ -9,7 +9,7 @@ use Rattle.objset.specs.Objset.{some, each}
 use Rattle.core.specs.Parts.{mostCores}
 use Rattle.machine.specs.Answers.{kind, values}
 use Rattle.machine.specs.Record.{tally}
-use Rattle.machine.specs.Words.{Deed, begins, reads, writes, waits, commits, told, gives, other, amounts, deeds, inProgress, births, born, ahead, any, touched, wrote, crosses, attempt, strikes, conflict, struck, setBacks}
+use Rattle.machine.specs.Words.{Deed, begins, reads, writes, waits, commits, told, gives, other, amounts, deeds, inProgress, births, born, ahead, any, touched, wrote, crosses, attempt, strikes, conflict, struck, setBacks, wroteNothing}
 use Rattle.machine.specs.Rounds.{among, isRound}
 use Rattle.machine.specs.Serial.{effect, replays, serial, stood, settled, version}
 use Rattle.examples_run.proofs.Examples.{Expected, exampleA}
@@ -133,15 +133,15 @@ tableTight =
     ∷ row (commits 0 0) nobody (going 1 1 1 0 [] (true ∷ true ∷ [])) false (1 ∷ []) (5 ∷ []) (1 ∷ [])
     ∷ row (begins 0) (going 2 1 0 0 [] (true ∷ true ∷ [])) (going 1 1 1 0 [] (true ∷ true ∷ [])) false [] (5 ∷ []) (1 ∷ [])
     ∷ row other (going 2 1 0 0 [] (true ∷ true ∷ [])) (going 1 1 1 0 [] (true ∷ true ∷ [])) false [] (5 ∷ []) (1 ∷ [])
-    ∷ row (reads 0 0 5) (going 2 1 0 0 (reads 0 0 5 ∷ []) (true ∷ false ∷ [])) (going 1 1 1 0 [] (true ∷ true ∷ [])) false []
+    ∷ row (writes 0 0 7) (going 2 1 0 0 (writes 0 0 7 ∷ []) (true ∷ true ∷ [])) (going 1 1 1 0 [] (true ∷ true ∷ [])) false []
     (5 ∷ []) (1 ∷ [])
-    ∷ row (told 1) (going 2 1 0 0 (reads 0 0 5 ∷ []) (true ∷ false ∷ [])) (going 1 1 1 1 [] (true ∷ true ∷ [])) false []
+    ∷ row (told 1) (going 2 1 0 0 (writes 0 0 7 ∷ []) (true ∷ true ∷ [])) (going 1 1 1 1 [] (true ∷ true ∷ [])) false []
     (5 ∷ []) (1 ∷ [])
-    ∷ row (writes 1 0 6) (going 2 1 0 0 (reads 0 0 5 ∷ []) (true ∷ false ∷ [])) (going 1 1 1 1 (writes 1 0 6 ∷ []) (true ∷ true ∷ [])) true []
+    ∷ row (writes 1 0 6) (going 2 1 0 0 (writes 0 0 7 ∷ []) (true ∷ true ∷ [])) (going 1 1 1 1 (writes 1 0 6 ∷ []) (true ∷ true ∷ [])) true []
     (5 ∷ []) (1 ∷ [])
-    ∷ row (waits 0 1) (going 2 1 0 0 (reads 0 0 5 ∷ []) (true ∷ false ∷ [])) (going 1 1 1 1 (writes 1 0 6 ∷ []) (true ∷ true ∷ [])) true []
+    ∷ row (waits 0 1) (going 2 1 0 0 (writes 0 0 7 ∷ []) (true ∷ true ∷ [])) (going 1 1 1 1 (writes 1 0 6 ∷ []) (true ∷ true ∷ [])) true []
     (5 ∷ []) (1 ∷ [])
-    ∷ row (waits 0 1) (going 2 1 0 0 (reads 0 0 5 ∷ []) (true ∷ false ∷ [])) (going 1 1 1 1 (writes 1 0 6 ∷ []) (true ∷ true ∷ [])) true []
+    ∷ row (waits 0 1) (going 2 1 0 0 (writes 0 0 7 ∷ []) (true ∷ true ∷ [])) (going 1 1 1 1 (writes 1 0 6 ∷ []) (true ∷ true ∷ [])) true []
     (5 ∷ []) (1 ∷ [])
     ∷ row (commits 1 1) (going 2 1 1 0 [] (true ∷ true ∷ true ∷ [])) nobody false (0 ∷ []) (6 ∷ []) (2 ∷ [])
     ∷ row (told 0) (going 2 1 1 1 [] (true ∷ true ∷ true ∷ [])) nobody false [] (6 ∷ []) (2 ∷ [])
@@ -166,6 +166,30 @@ tableTight =
 pub words-of-tight : rows 1 [] tightRun ≡ tableTight
 unfolding opening tight last afterwards tableTight those listed stations here rowAt rows kind values amounts tally some any inProgress births born ahead touched wrote crosses attempt conflict struck setBacks effect replays serial stood settled version
 words-of-tight = refl
+
+-- ---- who only looks
+
+-- after each call, the cores whose transaction's present attempt has written nothing
+unfoldable pub lookers : List Deed → List Expected → List (List ℕ)
+lookers h [] = []
+lookers h (x ∷ xs) =
+    let now : List Deed = amounts (x .call) (x .answer) ∷ h in
+    those mostCores (λ c. inProgress now c && wroteNothing (attempt now c)) ∷ lookers now xs
+
+-- core 0 until it writes; core 1 until it writes, and again once it is struck
+pub lookersA : List (List ℕ)
+lookersA =
+    [] ∷ [] ∷ (0 ∷ []) ∷ (0 ∷ 1 ∷ []) ∷ (0 ∷ 1 ∷ []) ∷ (1 ∷ []) ∷ [] ∷ [] ∷ (1 ∷ []) ∷ (1 ∷ []) ∷ (1 ∷ []) ∷ [] ∷ []
+
+-- X and E; T until it writes, E once it is struck and until it writes; T once it is struck, to its commit
+pub lookersTight : List (List ℕ)
+lookersTight =
+    [] ∷ [] ∷ (0 ∷ []) ∷ (0 ∷ 1 ∷ []) ∷ (0 ∷ 1 ∷ []) ∷ (1 ∷ []) ∷ (1 ∷ []) ∷ (0 ∷ 1 ∷ []) ∷ (0 ∷ 1 ∷ []) ∷ (1 ∷ []) ∷ (1 ∷ []) ∷ [] ∷ [] ∷ []
+    ∷ (0 ∷ []) ∷ (0 ∷ []) ∷ (0 ∷ []) ∷ [] ∷ []
+
+pub lookers-of-both : (lookers [] (exampleA .calls) ≡ lookersA) × (lookers [] (opening ++ tight ++ last) ≡ lookersTight)
+unfolding exampleA opening tight last lookersA lookersTight lookers those amounts kind values some any inProgress touched wrote wroteNothing crosses attempt
+lookers-of-both = (refl, refl)
 
 -- ---- rounds
 

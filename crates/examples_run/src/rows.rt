@@ -1,4 +1,4 @@
-// The examples of document 01 and of paper 1 as rows, and what a row stands for. A row is one number, the sum of a code and of the call's numbers,
+// The examples of document 01 and of papers 1 and 4 as rows, and what a row stands for. A row is one number, the sum of a code and of the call's numbers,
 // each times its weight: a table of numbers is proved in a second, an array of arrays takes twenty. `row_at` asks for a row that is there.
 ghost use Prim.Native.Nat.{_<_};
 
@@ -45,9 +45,9 @@ const SHOW_CARDS: u64 = 9 * CODE;
 const LARGEST: u64 = 4_294_967_295;
 
 // How many rows there are.
-pub const COUNT: usize = 136;
+pub const COUNT: usize = 258;
 
-// The examples, A to L and 1.
+// The examples, A to L, 1 and 4.
 const ROWS: [u64; COUNT] = [
     // the run of the document's script; card 1 stays 0
     HEADING + b'A' as u64,
@@ -199,6 +199,135 @@ const ROWS: [u64; COUNT] = [
     COMMIT + 1 * CORE,
     COMMIT + 5 * CORE,
     SHOW_CARDS,
+    // paper 4: a display on core 1 commits past the one that has written the ten cards it reads; its next frame reads the new values
+    HEADING + b'4' as u64,
+    SETUP + 2 * CORES + 10 * CARDS,
+    RELEASE + 0 * CORE + 1 * JOB + 90 * DEADLINE,
+    RELEASE + 1 * CORE + 2 * JOB + 90 * DEADLINE,
+    BEGIN + 0 * CORE,
+    BEGIN + 1 * CORE,
+    WRITE + 0 * CORE + 0 * CARD + 30 * VALUE,
+    WRITE + 0 * CORE + 1 * CARD + 31 * VALUE,
+    WRITE + 0 * CORE + 2 * CARD + 32 * VALUE,
+    WRITE + 0 * CORE + 3 * CARD + 33 * VALUE,
+    WRITE + 0 * CORE + 4 * CARD + 34 * VALUE,
+    WRITE + 0 * CORE + 5 * CARD + 35 * VALUE,
+    WRITE + 0 * CORE + 6 * CARD + 36 * VALUE,
+    WRITE + 0 * CORE + 7 * CARD + 37 * VALUE,
+    WRITE + 0 * CORE + 8 * CARD + 38 * VALUE,
+    WRITE + 0 * CORE + 9 * CARD + 39 * VALUE,
+    READ + 1 * CORE + 0 * CARD,
+    READ + 1 * CORE + 1 * CARD,
+    READ + 1 * CORE + 2 * CARD,
+    READ + 1 * CORE + 3 * CARD,
+    READ + 1 * CORE + 4 * CARD,
+    READ + 1 * CORE + 5 * CARD,
+    READ + 1 * CORE + 6 * CARD,
+    READ + 1 * CORE + 7 * CARD,
+    READ + 1 * CORE + 8 * CARD,
+    READ + 1 * CORE + 9 * CARD,
+    COMMIT + 1 * CORE,
+    COMMIT + 0 * CORE,
+    COMMIT + 1 * CORE,
+    BEGIN + 1 * CORE,
+    READ + 1 * CORE + 0 * CARD,
+    READ + 1 * CORE + 1 * CARD,
+    READ + 1 * CORE + 2 * CARD,
+    READ + 1 * CORE + 3 * CARD,
+    READ + 1 * CORE + 4 * CARD,
+    READ + 1 * CORE + 5 * CARD,
+    READ + 1 * CORE + 6 * CARD,
+    READ + 1 * CORE + 7 * CARD,
+    READ + 1 * CORE + 8 * CARD,
+    READ + 1 * CORE + 9 * CARD,
+    COMMIT + 1 * CORE,
+    SHOW_CARDS,
+    // a marked one is told, reads again and commits
+    SETUP + 2 * CORES + 2 * CARDS,
+    RELEASE + 0 * CORE + 1 * JOB + 90 * DEADLINE,
+    RELEASE + 1 * CORE + 2 * JOB + 90 * DEADLINE,
+    BEGIN + 0 * CORE,
+    BEGIN + 1 * CORE,
+    READ + 1 * CORE + 0 * CARD,
+    WRITE + 0 * CORE + 0 * CARD + 5 * VALUE,
+    COMMIT + 0 * CORE,
+    COMMIT + 1 * CORE,
+    READ + 1 * CORE + 0 * CARD,
+    COMMIT + 1 * CORE,
+    SHOW_CARDS,
+    // and commits at its second request without reading again
+    SETUP + 2 * CORES + 2 * CARDS,
+    RELEASE + 0 * CORE + 1 * JOB + 90 * DEADLINE,
+    RELEASE + 1 * CORE + 2 * JOB + 90 * DEADLINE,
+    BEGIN + 0 * CORE,
+    BEGIN + 1 * CORE,
+    READ + 1 * CORE + 0 * CARD,
+    WRITE + 0 * CORE + 0 * CARD + 5 * VALUE,
+    COMMIT + 0 * CORE,
+    COMMIT + 1 * CORE,
+    COMMIT + 1 * CORE,
+    SHOW_CARDS,
+    // a later writer waits for those who have looked at its card, core 2 first
+    SETUP + 3 * CORES + 1 * CARDS,
+    RELEASE + 0 * CORE + 1 * JOB + 90 * DEADLINE,
+    RELEASE + 1 * CORE + 2 * JOB + 90 * DEADLINE,
+    RELEASE + 2 * CORE + 3 * JOB + 90 * DEADLINE,
+    BEGIN + 2 * CORE,
+    BEGIN + 0 * CORE,
+    BEGIN + 1 * CORE,
+    READ + 2 * CORE + 0 * CARD,
+    READ + 0 * CORE + 0 * CARD,
+    WRITE + 1 * CORE + 0 * CARD + 5 * VALUE,
+    COMMIT + 1 * CORE,
+    COMMIT + 0 * CORE,
+    COMMIT + 1 * CORE,
+    READ + 2 * CORE + 0 * CARD,
+    COMMIT + 2 * CORE,
+    COMMIT + 1 * CORE,
+    SHOW_CARDS,
+    // one that wrote and was set back comes back as one that only looks
+    SETUP + 3 * CORES + 2 * CARDS,
+    RELEASE + 0 * CORE + 1 * JOB + 90 * DEADLINE,
+    RELEASE + 1 * CORE + 2 * JOB + 90 * DEADLINE,
+    RELEASE + 2 * CORE + 3 * JOB + 90 * DEADLINE,
+    BEGIN + 0 * CORE,
+    BEGIN + 2 * CORE,
+    BEGIN + 1 * CORE,
+    WRITE + 0 * CORE + 0 * CARD + 5 * VALUE,
+    WRITE + 2 * CORE + 1 * CARD + 6 * VALUE,
+    READ + 1 * CORE + 0 * CARD,
+    WRITE + 1 * CORE + 1 * CARD + 7 * VALUE,
+    COMMIT + 1 * CORE,
+    COMMIT + 0 * CORE,
+    COMMIT + 1 * CORE,
+    READ + 1 * CORE + 1 * CARD,
+    COMMIT + 1 * CORE,
+    COMMIT + 2 * CORE,
+    SHOW_CARDS,
+    // one that did nothing commits
+    SETUP + 2 * CORES + 1 * CARDS,
+    RELEASE + 0 * CORE + 1 * JOB + 90 * DEADLINE,
+    RELEASE + 1 * CORE + 2 * JOB + 90 * DEADLINE,
+    BEGIN + 0 * CORE,
+    BEGIN + 1 * CORE,
+    WRITE + 0 * CORE + 0 * CARD + 5 * VALUE,
+    COMMIT + 1 * CORE,
+    COMMIT + 0 * CORE,
+    SHOW_CARDS,
+    // one that wrote the value that the card had does not only look
+    SETUP + 2 * CORES + 1 * CARDS,
+    RELEASE + 0 * CORE + 1 * JOB + 90 * DEADLINE,
+    RELEASE + 1 * CORE + 2 * JOB + 90 * DEADLINE,
+    BEGIN + 0 * CORE,
+    BEGIN + 1 * CORE,
+    READ + 0 * CORE + 0 * CARD,
+    WRITE + 1 * CORE + 0 * CARD + 0 * VALUE,
+    COMMIT + 1 * CORE,
+    COMMIT + 0 * CORE,
+    COMMIT + 1 * CORE,
+    BEGIN + 0 * CORE,
+    READ + 0 * CORE + 0 * CARD,
+    SHOW_CARDS,
 ];
 
 // One of the eight calls.
@@ -224,7 +353,7 @@ pub enum Row {
 
 // The row at a place of the table.
 pub fn row_at(at: usize) -> Row
-    requires { ⌜ at < 136 ⌝ }
+    requires { ⌜ at < 258 ⌝ }
 {
     decode(ROWS[at])
 }

@@ -5,10 +5,10 @@ use Rattle.examples_run.proofs.main.Statement.{statement}
 use Rattle.examples_run.proofs.main.Tie as tie
 
 abbrev Inv-loop : tie.InvT-loop
-Inv-loop committed₀ pending₀ machine₀ i₀ committed pending machine i = i ≤ 136
+Inv-loop committed₀ pending₀ machine₀ i₀ committed pending machine i = i ≤ 258
 
 abbrev μ-loop : tie.MeasureT-loop
-μ-loop committed₀ pending₀ machine₀ i₀ committed pending machine i = 136 - i
+μ-loop committed₀ pending₀ machine₀ i₀ committed pending machine i = 258 - i
 
 slice-aggregate-setup : tie.Need-slice-aggregate-setup Inv-loop μ-loop
 slice-aggregate-setup c = search needs
