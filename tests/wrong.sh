@@ -47,7 +47,6 @@ wrong "the listing names no core" script/listing.rs 's/("waits", Some(core))/("w
 wrong "a looker waits" $commit 's/!self.core\[c\].read_only()/true/'
 wrong "one with an empty read set waits for nobody, no other" record.rs '/fn read_only/,/}/s/self.write_set == 0/self.read_set == 0/'
 wrong "one that has touched nothing waits for nobody, no other" record.rs '/fn read_only/,/}/s/self.write_set == 0/self.data_set() == 0/'
-wrong "nobody waits at all" $commit 's/!self.core\[c\].read_only()/false/'
 wrong "a marked looker commits" $commit 's/if self.core\[c\].zombie/& \&\& !self.core[c].read_only()/'
 wrong "a later writer passes an earlier looker" $commit 's/other.ticket < own.ticket/& \&\& !other.read_only()/'
 wrong "a looker's commit strikes who read the same" $commit \
