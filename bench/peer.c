@@ -210,6 +210,13 @@ INLINE void end(uint32_t c, unsigned place) {
   machine.queued--;
 }
 
+// Core c's place in the queue.
+INLINE unsigned place_of(uint32_t c) {
+  unsigned place = 0;
+  while (machine.queue[place] != c) place++;
+  return place;
+}
+
 // The place in the queue of the first core in conflict with core c's transaction; if no such one is before it, core c's place.
 INLINE unsigned first_in_the_way(uint32_t c) {
   const uint64_t data_set = machine.data_set[c], write_set = machine.write_set[c];
@@ -233,9 +240,10 @@ INLINE uint8_t *commit(uint8_t *out, uint32_t c) {
   static const char committed[16] = "committed ";
   if (c >= machine.cores) return no_such_core(out);
   if (machine.core[c].status != ACTIVE) return no_attempt(out, &machine.core[c]);
-  const unsigned place = first_in_the_way(c), first = machine.queue[place];
-  if (first != c) return waits(out, first);
+  // One that only looks, its write set empty, waits for nobody.
   const uint64_t write_set = machine.write_set[c];
+  const unsigned place = write_set ? first_in_the_way(c) : place_of(c), first = machine.queue[place];
+  if (first != c) return waits(out, first);
   end(c, place);
   if (write_set) {
     for (uint64_t left = write_set; left; left &= left - 1) {
@@ -252,9 +260,7 @@ INLINE uint8_t *give_up(uint8_t *out, uint32_t c) {
   static const char ended[16] = "ended -\n";
   if (c >= machine.cores) return no_such_core(out);
   if (machine.core[c].status == NONE) return refused(out, 9);
-  unsigned place = 0;
-  while (machine.queue[place] != c) place++;
-  end(c, place);
+  end(c, place_of(c));
   return put(out, ended);
 }
 

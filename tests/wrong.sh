@@ -34,7 +34,7 @@ wrong "no tickets are compared" $commit 's/other.ticket < own.ticket/false/'
 wrong "a marked transaction keeps its sets" $commit '/other.*_set = 0;/d' \
   $transaction 's/self.core\[core\].zombie = false;/& self.core[core].read_set = 0; self.core[core].write_set = 0;/'
 wrong "a commit counts twice" $commit 's/other.aborts += 1/other.aborts += 2/'
-wrong "every commit waits" $commit 's/= self.first_in_the_way(c)/= Some(0)/'
+wrong "every commit waits" $commit 's/= self.first_in_the_way(c)/= Some(0)/; s/!self.core\[c\].read_only()/true/'
 wrong "waits for later ones too" $commit 's/other.ticket < own.ticket/other.ticket != own.ticket/'
 wrong "waits for cores 0 and 1 only" $commit 's/(0..self.present().len()).filter/(0..self.present().len().min(2)).filter/'
 wrong "waits names the least core in the way" $commit 's/min_by_key(|&other| self.core\[other\].ticket)/min()/'
@@ -44,6 +44,18 @@ wrong "waits names the smallest ticket in progress" $commit \
 wrong "waits names a later one in conflict" $commit \
   's/core: first as u32/core: (c + 1..16).find(|\&o| self.core[o].ticket > self.core[c].ticket \&\& self.core[c].conflicts_with(\&self.core[o])).unwrap_or(first) as u32/'
 wrong "the listing names no core" script/listing.rs 's/("waits", Some(core))/("waits", None)/'
+wrong "a looker waits" $commit 's/!self.core\[c\].read_only()/true/'
+wrong "one with an empty read set waits for nobody, no other" record.rs '/fn read_only/,/}/s/self.write_set == 0/self.read_set == 0/'
+wrong "one that has touched nothing waits for nobody, no other" record.rs '/fn read_only/,/}/s/self.write_set == 0/self.data_set() == 0/'
+wrong "a marked looker commits" $commit 's/if self.core\[c\].zombie/& \&\& !self.core[c].read_only()/'
+wrong "a later writer passes an earlier looker" $commit 's/other.ticket < own.ticket/& \&\& !other.read_only()/'
+wrong "a looker's commit strikes who read the same" $commit \
+  's/self.strike(ending.write_set)/self.strike(if ending.read_only() { ending.read_set } else { ending.write_set })/'
+wrong "one that was set back is no looker" record.rs '/fn read_only/,/}/s/self.write_set == 0/& \&\& self.aborts == 0/'
+wrong "one that wrote before it was set back is no looker" record.rs \
+  's/    pub write_set: Set,/&\n    pub wrote: bool,/; /fn read_only/,/}/s/self.write_set == 0/& \&\& !self.wrote/' \
+  $transaction 's/self.core\[c\].write_set |= only(d);/& self.core[c].wrote = true;/'
+wrong "a write of the value that is there is none" $transaction 's/self.core\[c\].write_set |= only(d);/if committed[d] != value { & }/'
 wrong "value 0 always" $transaction 's/let value = .*/let value = 0;/'
 wrong "no card is moved" $commit '/committed\[object\] = /d'
 wrong "one setback is invented" $commit 's/Committed(ending.aborts)/Committed(ending.aborts + 1)/'

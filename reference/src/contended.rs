@@ -1,4 +1,5 @@
-//! Contended runs by seed: few objects, many cores, some refused calls.
+//! Contended runs by seed: few objects, many cores, some refused calls. Some
+//! cores are displays, which read many objects and write none.
 
 use crate::answer::Answer;
 use crate::call::Call;
@@ -30,13 +31,28 @@ enum Turns {
     Falling,
 }
 
+/// What an attempt does before it asks to commit.
+#[derive(Clone, Copy, Default)]
+enum Habit {
+    /// Reads and writes.
+    #[default]
+    Mixed,
+    /// Reads only, one object after another from this one on.
+    Looks { from: u32 },
+    /// Writes the values that are there.
+    Keeps,
+}
+
 /// What the generator remembers of a core, from the answers it heard.
 #[derive(Clone, Copy, Default)]
 struct Seat {
+    /// Every attempt only looks.
+    display: bool,
     jobs: u32,
     open: bool,
     done: u32,
     planned: u32,
+    habit: Habit,
 }
 
 /// Makes up calls, and hears their answers.
@@ -56,27 +72,34 @@ pub struct Contention {
     writes: u32,
     /// The share of give-ups among commits, in a hundred.
     give_ups: u32,
+    /// The share of attempts that look, in a hundred, and half as many that keep
+    /// what is there, on cores that are no displays.
+    looks: u32,
+    /// Reads of an attempt that looks, at most.
+    frame: u32,
     /// The objects that most reads and writes go to.
     hot: Vec<u32>,
     /// How often a crowd begins, in a hundred calls.
     crowds: u32,
-    /// The calls of a crowd that are still to be made, the last one first.
-    crowd: Vec<Call>,
+    /// The calls of a crowd or of a display that are still to be made, the last
+    /// one first.
+    ahead: Vec<Call>,
     seats: Vec<Seat>,
 }
 
 impl Contention {
-    /// Chooses the machine and the shape of the run by the seed. One run in four
-    /// has crowds, on a machine of some cores more.
+    /// Chooses the machine and the shape of the run by the seed. Three runs in
+    /// ten have crowds, on a machine of some cores more.
     pub fn new(seed: u64) -> Contention {
         let mut random = Random::new(seed);
         let most_cores = *random.pick(&[2, 4, 4, 8, 16]);
         let cores = 1 + random.below(most_cores);
-        let objects = *random.pick(&[1, 1, 2, 2, 3, 4, 8, 64]);
-        if random.percent(25) {
+        let objects = *random.pick(&[1, 1, 2, 2, 3, 4, 8, 10, 12, 64]);
+        if random.percent(30) {
             let cores = 4 + random.below(13);
             let shaped = Contention::shaped(random, cores, objects);
-            return Contention { even: false, crowds: 5, ..shaped };
+            let writes = shaped.writes.max(60);
+            return Contention { even: false, crowds: 5, writes, ..shaped };
         }
         Contention::shaped(random, cores, objects)
     }
@@ -93,7 +116,8 @@ impl Contention {
         let cores = *random.pick(&[1, 2, 2, 2, 2, 3]);
         let objects = *random.pick(&[1, 1, 2]);
         let length = 1 + random.below(2);
-        Contention { length, ..Contention::shaped(random, cores, objects) }
+        let shaped = Contention::shaped(random, cores, objects);
+        Contention { length, frame: length, ..shaped }
     }
 
     /// Chooses a crowd by the seed, on this many cores: the run begins with it.
@@ -101,11 +125,15 @@ impl Contention {
         let mut random = Random::new(seed);
         let objects = *random.pick(&[1, 1, 2]);
         let shaped = Contention::shaped(random, cores, objects);
-        Contention { even: false, crowds: 100, ..shaped }
+        let writes = shaped.writes.max(60);
+        Contention { even: false, crowds: 100, writes, ..shaped }
     }
 
     fn shaped(mut random: Random, cores: u32, objects: u32) -> Contention {
         let even = random.percent(30);
+        let displays = *random.pick(&[0, 0, 15, 40]);
+        let seat = |display| Seat { display, ..Seat::default() };
+        let seats = (0..cores).map(|_| seat(random.percent(displays))).collect();
         Contention {
             cores,
             objects,
@@ -114,12 +142,14 @@ impl Contention {
             length: *random.pick(&[1, 2, 3, 5, 8]),
             even,
             odd: if even { 0 } else { *random.pick(&[0, 5, 20]) },
-            writes: *random.pick(&[20, 50, 90, 100]),
+            writes: *random.pick(&[40, 60, 90, 100]),
             give_ups: if even { 0 } else { *random.pick(&[0, 0, 5]) },
             hot: [0, 1, 31, 32, 62, 63].into_iter().filter(|&object| object < objects).collect(),
             crowds: 0,
-            crowd: Vec::new(),
-            seats: vec![Seat::default(); cores as usize],
+            ahead: Vec::new(),
+            looks: if displays > 0 { 20 } else { 0 },
+            frame: 12.min(2 * objects),
+            seats,
             random,
         }
     }
@@ -150,11 +180,12 @@ impl Contention {
 
     /// Makes the call of this number after the setup.
     pub fn step(&mut self, subject: &mut impl Subject, number: usize) -> (Call, Answer) {
-        if self.crowds > 0 && self.crowd.is_empty() && self.random.percent(self.crowds) {
-            self.crowd = self.next_crowd();
+        let committed = subject.committed();
+        if self.crowds > 0 && self.ahead.is_empty() && self.random.percent(self.crowds) {
+            self.ahead = self.next_crowd(committed);
         }
-        let planned = self.opening(number).or_else(|| self.crowd.pop());
-        let call = planned.unwrap_or_else(|| self.next_call());
+        let planned = self.opening(number).or_else(|| self.ahead.pop());
+        let call = planned.unwrap_or_else(|| self.next_call(committed));
         let answer = subject.call(call);
         self.hear(call, answer);
         (call, answer)
@@ -173,7 +204,7 @@ impl Contention {
     /// The calls of a crowd, the last one first. All begin anew, in any order; up
     /// to two of the earliest touch nothing, the others one of two objects at
     /// most; the latest ask to commit first.
-    fn next_crowd(&mut self) -> Vec<Call> {
+    fn next_crowd(&mut self, committed: &[u32]) -> Vec<Call> {
         let order = self.random.shuffled(self.cores);
         let mut calls = Vec::new();
         for &core in &order {
@@ -185,14 +216,15 @@ impl Contention {
         let (asides, shared) = (self.random.place(3), 1 + self.random.place(2));
         for &core in order.iter().skip(asides) {
             let object = self.hot[self.random.place(shared.min(self.hot.len()))];
-            calls.push(self.touch(core, object));
+            let habit = self.next_habit(core);
+            calls.push(self.touch(core, object, habit, committed));
         }
         calls.extend(order.iter().rev().map(|&core| Call::Commit { core }));
         calls.reverse();
         calls
     }
 
-    fn next_call(&mut self) -> Call {
+    fn next_call(&mut self, committed: &[u32]) -> Call {
         if self.random.percent(self.odd) {
             return self.any_call();
         }
@@ -202,7 +234,7 @@ impl Contention {
             return self.idle_call(core, seat);
         }
         if seat.done < seat.planned {
-            self.access(core)
+            self.access(core, seat, committed)
         } else if self.random.percent(self.give_ups) {
             Call::GiveUp { core }
         } else {
@@ -226,26 +258,58 @@ impl Contention {
         } else if self.random.percent(15) {
             Call::Finish { core }
         } else {
+            if seat.display && self.random.percent(50) {
+                self.ahead = self.at_a_stretch(core);
+            }
             Call::Begin { core }
         }
+    }
+
+    /// The reads of a display and its commit, the last one first. Nobody calls in
+    /// between.
+    fn at_a_stretch(&mut self, core: u32) -> Vec<Call> {
+        let from = *self.random.pick(&self.hot);
+        let fewer = 1 + self.random.below(self.frame);
+        let reads = if self.random.percent(60) { self.frame } else { fewer };
+        let mut calls = vec![Call::Commit { core }];
+        calls.extend((from..from + reads).map(|d| Call::Read { core, object: d % self.objects }));
+        calls
     }
 
     fn release(&mut self, core: u32) -> Call {
         Call::Release { core, job: self.random.below(65_536) as u16, deadline: self.word() }
     }
 
-    fn access(&mut self, core: u32) -> Call {
+    fn access(&mut self, core: u32, seat: Seat, committed: &[u32]) -> Call {
         let any_object = self.random.below(self.objects);
         let hot_object = *self.random.pick(&self.hot);
-        let object = if self.random.percent(80) { hot_object } else { any_object };
-        self.touch(core, object)
+        let object = match seat.habit {
+            Habit::Looks { from } => (from + seat.done) % self.objects,
+            _ if self.random.percent(80) => hot_object,
+            _ => any_object,
+        };
+        self.touch(core, object, seat.habit, committed)
     }
 
-    fn touch(&mut self, core: u32, object: u32) -> Call {
-        if self.random.percent(self.writes) {
-            Call::Write { core, object, value: self.word() }
-        } else {
-            Call::Read { core, object }
+    fn touch(&mut self, core: u32, object: u32, habit: Habit, committed: &[u32]) -> Call {
+        match habit {
+            Habit::Keeps => Call::Write { core, object, value: committed[object as usize] },
+            Habit::Mixed if self.random.percent(self.writes) => {
+                Call::Write { core, object, value: self.word() }
+            }
+            _ => Call::Read { core, object },
+        }
+    }
+
+    /// What the next attempt on a core does.
+    fn next_habit(&mut self, core: u32) -> Habit {
+        let display = self.seats[core as usize].display;
+        if display || self.random.percent(self.looks) {
+            return Habit::Looks { from: self.random.below(self.objects) };
+        }
+        match self.random.percent(self.looks / 2) {
+            true => Habit::Keeps,
+            false => Habit::Mixed,
         }
     }
 
@@ -276,22 +340,31 @@ impl Contention {
 
     /// Remembers what an answer says about the core that called.
     fn hear(&mut self, call: Call, answer: Answer) {
-        let any_length = self.random.below(self.length + 1);
-        let planned = if self.even { self.length } else { any_length };
-        let Some(seat) = call.core().and_then(|core| self.seats.get_mut(core as usize)) else {
+        let Some(core) = call.core().filter(|&core| core < self.cores) else {
             return;
         };
+        if matches!(answer, Answer::Begun(_) | Answer::SetBack) {
+            return self.plan(core);
+        }
+        let seat = &mut self.seats[core as usize];
         match answer {
             Answer::Running | Answer::Queued => seat.jobs += 1,
             Answer::Finished(_) => seat.jobs = seat.jobs.saturating_sub(1),
             Answer::Value { .. } | Answer::Written => seat.done += 1,
-            Answer::Begun(_) | Answer::SetBack => {
-                seat.open = true;
-                seat.done = 0;
-                seat.planned = planned;
-            }
             Answer::Committed(_) | Answer::Ended => seat.open = false,
-            Answer::Ready | Answer::Waits { .. } | Answer::Refused(_) => {}
+            _ => {}
         }
+    }
+
+    /// Plans the next attempt of a core.
+    fn plan(&mut self, core: u32) {
+        let habit = self.next_habit(core);
+        let any_length = match habit {
+            Habit::Looks { .. } => self.random.below(self.frame + 1),
+            _ => self.random.below(self.length + 1),
+        };
+        let planned = if self.even { self.length } else { any_length };
+        let seat = &mut self.seats[core as usize];
+        *seat = Seat { open: true, done: 0, planned, habit, ..*seat };
     }
 }

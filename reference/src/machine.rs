@@ -27,6 +27,11 @@ impl Machine {
         &self.committed[..self.record.objects as usize]
     }
 
+    /// The pending values, one word for each core and object.
+    pub fn pending(&self) -> &[u32] {
+        &self.pending[..(self.record.cores * self.record.objects) as usize]
+    }
+
     /// The committed values, open to a test that spoils them.
     pub fn committed_mut(&mut self) -> &mut [u32] {
         &mut self.committed[..self.record.objects as usize]

@@ -48,6 +48,12 @@ impl Core {
         self.read_set | self.write_set
     }
 
+    /// Whether this attempt only looks: its write set is empty. What an earlier
+    /// attempt wrote does not count; one that has touched nothing only looks too.
+    pub fn read_only(&self) -> bool {
+        self.write_set == 0
+    }
+
     /// The place of the running job: the owner while a transaction is in
     /// progress, else the first of those with the least deadline.
     pub fn running(&self) -> Option<usize> {

@@ -109,7 +109,7 @@ fn quick_calls(random: &mut Random) -> Vec<Call> {
         1..=15 => contended(random, 1_000),
         16..=40 => (0..random.below(40)).map(|_| any_call(random)).collect(),
         41..=80 => [contended(random, 30), contended(random, 30)].concat(),
-        81..=140 => few_calls(random),
+        81..=155 => few_calls(random),
         _ => contended(random, 90),
     }
 }
@@ -132,11 +132,12 @@ fn contended(random: &mut Random, most: u32) -> Vec<Call> {
 /// Few calls, so that a script that shows a fault has few lines to choose from.
 fn few_calls(random: &mut Random) -> Vec<Call> {
     let length = 1 + random.place(FEW_CALLS);
-    match random.below(8) {
+    match random.below(12) {
         0 => full_list(random, length),
-        1 => struck_in_turn(random),
-        2 => [small(random, length / 2), small(random, length / 2)].concat(),
-        3 | 4 => crowd(random),
+        1 | 2 => struck_in_turn(random),
+        3 => [small(random, length / 2), small(random, length / 2)].concat(),
+        4..=6 => crowd(random),
+        7 | 8 => frame(random),
         _ => small(random, length),
     }
 }
@@ -147,6 +148,32 @@ fn crowd(random: &mut Random) -> Vec<Call> {
     let cores = 2 + random.below(5);
     let contention = Contention::crowd(cores, random.bits());
     contended_run(contention, (3 * cores + 1 + random.below(cores)) as usize)
+}
+
+/// A setup and a display on core 0 that reads up to ten cards, while one or two
+/// others write one each, in many cases what is there. All begin, and ask to
+/// commit, in any order; the display may read and ask again.
+fn frame(random: &mut Random) -> Vec<Call> {
+    let cores = 2 + random.below(2);
+    let objects = *random.pick(&[1, 1, 2, 3, 5, 10]);
+    let mut calls = vec![Call::Setup { cores, objects }];
+    calls.extend((0..cores).map(|core| Call::Release { core, job: 7, deadline: 9 }));
+    calls.extend(random.shuffled(cores).into_iter().map(|core| Call::Begin { core }));
+    let reads = (0..objects).map(|object| Call::Read { core: 0, object });
+    let writes = (1..cores).map(|core| {
+        let (object, value) = (random.below(objects), random.below(2));
+        Call::Write { core, object, value }
+    });
+    let (reads, writes): (Vec<Call>, Vec<Call>) = (reads.collect(), writes.collect());
+    match random.percent(50) {
+        true => calls.extend(writes.into_iter().chain(reads)),
+        false => calls.extend(reads.into_iter().chain(writes)),
+    }
+    calls.extend(random.shuffled(cores).into_iter().map(|core| Call::Commit { core }));
+    if random.percent(50) {
+        calls.extend([Call::Read { core: 0, object: 0 }, Call::Commit { core: 0 }]);
+    }
+    calls
 }
 
 /// A setup and a contended run of so many calls on a small machine.
@@ -167,8 +194,9 @@ fn full_list(random: &mut Random, length: usize) -> Vec<Call> {
 }
 
 /// A setup and a late transaction that one or two earlier ones set back, each
-/// with its commit; a core that has committed may come again. In half of the
-/// cases there is a call more at any place.
+/// with its commit; a core that has committed may come again, and the late one
+/// may ask to commit before, and read again after. In half of the cases there is
+/// a call more at any place.
 fn struck_in_turn(random: &mut Random) -> Vec<Call> {
     let late = 1 + random.below(2);
     let mut calls = vec![Call::Setup { cores: late + 1, objects: 1 }];
@@ -182,12 +210,15 @@ fn struck_in_turn(random: &mut Random) -> Vec<Call> {
             0 => Call::Read { core: late, object: 0 },
             _ => Call::Write { core: late, object: 0, value },
         };
-        calls.extend([write, touch, commit]);
+        calls.extend([write, touch]);
+        calls.extend(random.percent(30).then_some(Call::Commit { core: late }));
+        calls.push(commit);
         if late == 1 && random.percent(50) {
             calls.extend([Call::Begin { core }, write, commit]);
         }
         calls.push(touch);
     }
+    calls.extend(random.percent(40).then_some(Call::Read { core: late, object: 0 }));
     calls.push(Call::Commit { core: late });
     if random.percent(50) {
         let more = one_more(random, late);

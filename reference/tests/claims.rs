@@ -200,7 +200,11 @@ fn waits_for_earlier() {
         ("read 1 0 -", "value 0"),
         ("commit 1 - -", "waits 0"),
     ];
-    let expected = [(4, Claim::WaitsForEarlier, Some(1)), (4, Claim::NamedInConflict, Some(1))];
+    let expected = [
+        (4, Claim::WaitsForEarlier, Some(1)),
+        (4, Claim::ReadOnlyNeverWaits, Some(1)),
+        (4, Claim::NamedInConflict, Some(1)),
+    ];
     assert_eq!(broken(&report(&readers)), expected);
     assert_eq!(broken(&report(&with(&readers, 4, "committed 0"))), []);
 
@@ -215,6 +219,150 @@ fn waits_for_earlier() {
     ];
     let expected = [(6, Claim::WaitsForEarlier, Some(0)), (6, Claim::NamedEarlier, Some(0))];
     assert_eq!(broken(&report(&for_later)), expected);
+}
+
+/// Core 1 reads what core 0 has written, and asks to commit.
+const LOOKS: [(&str, &str); 6] = [
+    ("begin 0 - -", "begun 0"),
+    ("begin 1 - -", "begun 1"),
+    ("write 0 0 5", "written -"),
+    ("read 1 0 -", "value 0"),
+    ("commit 1 - -", "committed 0"),
+    ("commit 0 - -", "committed 0"),
+];
+
+#[test]
+fn one_that_has_written_nothing_never_waits() {
+    assert_eq!(broken(&report(&LOOKS)), []);
+    let waits = report(&with(&LOOKS[..5], 4, "waits 0"));
+    assert_eq!(broken(&waits), [(4, Claim::ReadOnlyNeverWaits, Some(1))]);
+    // With nothing touched there is nobody in the way either.
+    let idle = [LOOKS[0], LOOKS[1], LOOKS[2], ("commit 1 - -", "waits 0")];
+    let expected = [
+        (3, Claim::WaitsForEarlier, Some(1)),
+        (3, Claim::ReadOnlyNeverWaits, Some(1)),
+        (3, Claim::NamedInConflict, Some(1)),
+    ];
+    assert_eq!(broken(&report(&idle)), expected);
+}
+
+#[test]
+fn one_that_has_written_nothing_is_never_refused() {
+    let refused = report(&with(&LOOKS, 4, "refused 9"));
+    let expected = [(4, Claim::ReadOnlyNeverRefused, Some(1))];
+    assert_eq!(broken(&refused), expected);
+    // Nor while it is marked and not told; a core with no transaction may be.
+    let marked = [&TOGETHER[..6], &[("commit 1 - -", "refused 2")]].concat();
+    assert_eq!(broken(&report(&marked)), [(6, Claim::ReadOnlyNeverRefused, Some(1))]);
+    let nobody = [&LOOKS[..5], &[("commit 1 - -", "refused 9"), ("commit 3 - -", "refused 4")]];
+    assert_eq!(broken(&report(&nobody.concat())), []);
+    // Of one that has written this claim says nothing.
+    let wrote = [LOOKS[0], LOOKS[2], ("commit 0 - -", "refused 3")];
+    assert_eq!(broken(&report(&wrote)), []);
+}
+
+#[test]
+fn only_one_that_has_written_nothing_commits_past_an_earlier_one() {
+    for touch in [("write 1 0 0", "written -"), ("write 1 1 7", "written -")] {
+        let steps = [&LOOKS[..4], &[touch, LOOKS[4]]].concat();
+        let in_turn = (5, Claim::CommitsInTurn, Some(1));
+        assert!(broken(&report(&steps)).contains(&in_turn), "{touch:?}");
+        let waits = with(&steps, 5, "waits 0");
+        assert_eq!(broken(&report(&waits)), [], "{touch:?}");
+    }
+}
+
+/// Core 2 wrote, is set back by core 0 and only reads since; core 1 has written
+/// what it reads.
+const COMES_BACK: [(&str, &str); 10] = [
+    ("begin 0 - -", "begun 0"),
+    ("begin 1 - -", "begun 1"),
+    ("begin 2 - -", "begun 2"),
+    ("write 2 0 4", "written -"),
+    ("write 0 0 5", "written -"),
+    ("commit 0 - -", "committed 0"),
+    ("write 1 0 6", "written -"),
+    ("commit 2 - -", "setback -"),
+    ("read 2 0 -", "value 5"),
+    ("commit 2 - -", "committed 1"),
+];
+
+#[test]
+fn what_an_earlier_attempt_wrote_does_not_count() {
+    assert_eq!(broken(&report(&COMES_BACK)), []);
+    let waits = report(&with(&COMES_BACK, 9, "waits 1"));
+    assert_eq!(broken(&waits), [(9, Claim::ReadOnlyNeverWaits, Some(2))]);
+    let wrote_again = [&COMES_BACK[..9], &[("write 2 0 5", "written -"), COMES_BACK[9]]].concat();
+    assert!(report(&wrote_again).breaks(Claim::CommitsInTurn));
+}
+
+#[test]
+fn a_marked_looker_is_told_before_it_commits() {
+    let untold = [&COMES_BACK[..7], &[("commit 2 - -", "committed 1")]].concat();
+    let expected = [(7, Claim::ToldOnce, Some(2)), (7, Claim::AbortsReported, Some(2))];
+    assert_eq!(broken(&report(&untold)), expected);
+    let told = [&COMES_BACK[..8], &[("commit 2 - -", "committed 1")]].concat();
+    assert_eq!(broken(&report(&told)), []);
+}
+
+#[test]
+fn a_lookers_commit_strikes_nobody() {
+    let told = [&LOOKS[..5], &[("commit 0 - -", "setback -")]].concat();
+    assert_eq!(broken(&report(&told)), [(5, Claim::ToldOnce, Some(0))]);
+    let counted = with(&LOOKS, 5, "committed 1");
+    assert_eq!(broken(&report(&counted)), [(5, Claim::AbortsReported, Some(0))]);
+}
+
+#[test]
+fn a_lookers_commit_raises_no_version() {
+    let run = |version| {
+        whole(&[
+            ("begin 0 - -", Answer::Begun(0)),
+            ("read 0 0 -", Answer::Value { value: 0, version: 0 }),
+            ("commit 0 - -", Answer::Committed(0)),
+            ("begin 1 - -", Answer::Begun(1)),
+            ("read 1 0 -", Answer::Value { value: 0, version }),
+        ])
+    };
+    assert_eq!(broken(&check(&run(0))), []);
+    let expected = [(4, Claim::StoodTogether, Some(1)), (4, Claim::Versions, Some(1))];
+    assert_eq!(broken(&check(&run(1))), expected);
+}
+
+#[test]
+fn a_later_writer_waits_for_an_earlier_looker() {
+    let steps = [
+        ("begin 0 - -", "begun 0"),
+        ("begin 1 - -", "begun 1"),
+        ("read 0 0 -", "value 0"),
+        ("write 1 0 5", "written -"),
+        ("commit 1 - -", "waits 0"),
+        ("commit 0 - -", "committed 0"),
+        ("commit 1 - -", "committed 0"),
+    ];
+    assert_eq!(broken(&report(&steps)), []);
+    let passed = report(&with(&steps[..5], 4, "committed 0"));
+    assert!(passed.breaks(Claim::CommitsInTurn) && passed.breaks(Claim::StruckByEarlier));
+}
+
+#[test]
+fn a_looker_is_replayed_where_it_committed() {
+    // Core 1 commits before core 0 and reads the old value, and the new one after.
+    let again = [("begin 1 - -", "begun 2"), ("read 1 0 -", "value 5"), LOOKS[4]];
+    let steps = [&LOOKS[..], &again].concat();
+    assert_eq!(broken(&report(&steps)), []);
+    assert!(report(&with(&steps, 3, "value 5")).breaks(Claim::SerialReads));
+    assert!(report(&with(&steps, 7, "value 0")).breaks(Claim::SerialReads));
+}
+
+#[test]
+fn a_looker_has_rounds_like_any_other() {
+    // k = 1 and L = 1: six rounds, of which its read is in the first.
+    let rounds = |count| [("commit 0 - -", "waits 1"), ("commit 1 - -", "waits 0")].repeat(count);
+    let late = (13, Claim::RoundsBound, Some(1));
+    let asks = |count| broken(&report(&[&LOOKS[..4], &rounds(count)].concat()));
+    assert!(asks(5).contains(&late));
+    assert!(!asks(4).iter().any(|&(_, claim, whose)| (claim, whose) == (late.1, late.2)));
 }
 
 /// Cores 2, 5 and 0 are in the way of core 4. Core 3 was begun before them and

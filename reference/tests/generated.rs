@@ -8,6 +8,7 @@ use cards_reference::call::Call;
 use cards_reference::checker::{check, Nearest, Run};
 use cards_reference::contended::Contention;
 use cards_reference::listed_runs::listed_runs;
+use cards_reference::looking::{Looking, CASES};
 use cards_reference::machine::Machine;
 use cards_reference::random::Random;
 use cards_reference::replay::first_difference;
@@ -110,9 +111,14 @@ impl Waits {
 
     /// Adds the runs of a script.
     fn add_script(&mut self, script: &[u8]) {
-        let shown = listed_runs(script, &listing_of(script)).expect("a good listing");
-        self.add(&shown.into_iter().map(|shown| shown.run).collect::<Vec<_>>());
+        self.add(&runs_of(script));
     }
+}
+
+/// The runs of a script.
+fn runs_of(script: &[u8]) -> Vec<Run> {
+    let shown = listed_runs(script, &listing_of(script)).expect("a good listing");
+    shown.into_iter().map(|shown| shown.run).collect()
 }
 
 /// What stands around each commit of the run that waits.
@@ -173,6 +179,84 @@ fn scripts_wait_in_crowds() {
     assert!(quick.between * 20 > quick.all && quick.with_crowd > 150, "{quick:?}");
     assert!(few.not_least > 20 && few.bystander > 50, "{few:?}");
     assert!(any.between * 40 > any.all && any.with_crowd > 15, "{any:?}");
+}
+
+/// How often each of the cases of those that only look is met, and in how many
+/// runs or scripts.
+#[derive(Default)]
+struct Looks {
+    all: [usize; CASES.len()],
+    with: [usize; CASES.len()],
+}
+
+impl Looks {
+    fn add(&mut self, runs: &[Run]) {
+        let mut met = [0; CASES.len()];
+        runs.iter().flat_map(looks).for_each(|case| met[case] += 1);
+        for (case, met) in met.into_iter().enumerate() {
+            self.all[case] += met;
+            self.with[case] += usize::from(met > 0);
+        }
+    }
+
+    /// Prints the counts.
+    fn print(&self, of: &str) {
+        println!("{of}:");
+        for (case, name) in CASES.iter().enumerate() {
+            println!("  {name}: {}, in {}", self.all[case], self.with[case]);
+        }
+    }
+
+    /// Each case is met in so many runs or scripts, at least.
+    fn each_in(&self, least: [usize; CASES.len()]) {
+        for (case, name) in CASES.iter().enumerate() {
+            assert!(self.with[case] >= least[case], "{name}: only in {}", self.with[case]);
+        }
+    }
+}
+
+/// The cases that a run shows, one after another.
+fn looks(run: &Run) -> Vec<usize> {
+    let mut machine = Machine::blank();
+    machine.call(Call::Setup { cores: run.cores, objects: run.objects });
+    let (mut looking, mut seen) = (Looking::default(), Vec::new());
+    for &(call, _) in &run.steps {
+        let before = machine.record;
+        let answer = machine.call(call);
+        let shown = looking.see(&before, call, answer, machine.committed(), machine.pending());
+        seen.extend((0..CASES.len()).filter(|&case| shown[case]));
+    }
+    seen
+}
+
+#[test]
+fn contended_runs_look() {
+    let mut looks = Looks::default();
+    for seed in 0..600 {
+        looks.add(&[Contention::new(seed).run(&mut Machine::blank(), 1_000)]);
+    }
+    looks.print("600 contended runs");
+    looks.each_in([250, 25, 250, 140, 250, 250, 250]);
+}
+
+#[test]
+fn scripts_look() {
+    let (mut quick, mut few, mut any) = (Looks::default(), Looks::default(), Looks::default());
+    for seed in 1..=10_000 {
+        let script = quick_script(seed);
+        let runs = runs_of(&script);
+        quick.add(&runs);
+        if lines_of(&script) < 20 {
+            few.add(&runs);
+        }
+    }
+    (1..=300).for_each(|seed| any.add(&runs_of(&script(seed))));
+    quick.print("10,000 quick scripts");
+    few.print("those of fewer than 20 lines");
+    any.print("300 scripts of any length");
+    quick.each_in([800, 40, 550, 160, 450, 700, 400]);
+    few.each_in([90, 1, 70, 35, 75, 15, 50]);
+    any.each_in([60, 1, 45, 15, 40, 55, 40]);
 }
 
 #[test]

@@ -113,6 +113,14 @@ fn whoever_is_named_by_mistake_is_seen() {
 }
 
 #[test]
+fn a_wrong_rule_for_those_that_only_look_is_seen() {
+    caught(Knot::ReaderWaits, &[Claim::ReadOnlyNeverWaits]);
+    let passed = [Claim::CommitsInTurn, Claim::StruckByEarlier, Claim::StrikesAtMostK];
+    caught(Knot::ReaderPassed, &passed);
+    caught(Knot::ReaderRaises, &[Claim::Versions, Claim::StoodTogether]);
+}
+
+#[test]
 fn buyer_refuses_with_no_reason() {
     for knot in [Knot::RefusesAll, Knot::TicketsSpent] {
         for run in runs(knot) {
@@ -140,6 +148,9 @@ fn every_knot_shows_in_the_answers() {
         Knot::NamesSmallestTicket,
         Knot::NamesLater,
         Knot::NamesIdle,
+        Knot::ReaderWaits,
+        Knot::ReaderPassed,
+        Knot::ReaderRaises,
     ] {
         let differs = runs(knot).any(|run| first_difference(&run).is_some());
         assert!(differs, "{knot:?}");

@@ -1,4 +1,5 @@
-//! commit: the commit rule.
+//! commit: the commit rule, as paper 4 of document 02 amends it for those that
+//! only look.
 
 use super::admit::Admitted;
 use crate::answer::Answer;
@@ -6,9 +7,11 @@ use crate::record::Record;
 use crate::set::{only, Set};
 
 impl Record {
-    /// Set back for a zombie; waits if a conflicting transaction has a smaller
-    /// ticket, with the core of the smallest, and nothing else changes; otherwise
-    /// committed with the count of aborts (setbacks).
+    /// Set back for a zombie. One with an empty write set commits when requested,
+    /// whatever earlier ones in progress have written; for any other the answer is
+    /// waits if a conflicting transaction has a smaller ticket, with the core of
+    /// the smallest, and nothing else changes. Otherwise committed with the count
+    /// of aborts (setbacks).
     pub fn commit(mut self, core: u32, committed: &mut [u32], pending: &[u32]) -> (Answer, Record) {
         let c = match self.admit_commit(core, committed, pending) {
             Ok(c) => c,
@@ -17,8 +20,10 @@ impl Record {
         if self.core[c].zombie {
             return self.tell_set_back(c);
         }
-        if let Some(first) = self.first_in_the_way(c) {
-            return (Answer::Waits { core: first as u32 }, self);
+        if !self.core[c].read_only() {
+            if let Some(first) = self.first_in_the_way(c) {
+                return (Answer::Waits { core: first as u32 }, self);
+            }
         }
         let ending = self.core[c];
         self.core[c] = ending.without_transaction();

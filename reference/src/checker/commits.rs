@@ -1,5 +1,6 @@
-//! Demand 3: a commit answers waits only while an earlier transaction is in
-//! conflict, and committed only while there is none.
+//! Demand 3, with paper 4 of document 02: a commit answers waits only while an
+//! earlier transaction is in conflict, and committed only while there is none or
+//! if the present attempt has written nothing.
 
 use super::history::{Event, History};
 use super::report::{Claim, Report};
@@ -12,7 +13,7 @@ pub(super) fn check(history: &History, report: &mut Report) {
                 Event::Waited { in_conflict, .. } if !blocked(in_conflict) => {
                     Claim::WaitsForEarlier
                 }
-                Event::Committed { in_conflict, .. } if blocked(in_conflict) => {
+                Event::Committed { in_conflict, read_only: false, .. } if blocked(in_conflict) => {
                     Claim::CommitsInTurn
                 }
                 _ => continue,

@@ -11,10 +11,13 @@ pub enum Event {
     /// A call answered set back.
     Told,
     /// A commit answered waits, the transaction in progress on the core named,
-    /// if there is one, and those in conflict then.
-    Waited { named: Option<usize>, in_conflict: Vec<usize> },
-    /// A commit answered committed, and those in conflict then.
-    Committed { aborts: u32, in_conflict: Vec<usize> },
+    /// if there is one, those in conflict then, and whether it had written
+    /// nothing since its begin or since it was last struck.
+    Waited { named: Option<usize>, in_conflict: Vec<usize>, read_only: bool },
+    /// A commit answered committed, and the same of it.
+    Committed { aborts: u32, in_conflict: Vec<usize>, read_only: bool },
+    /// A commit that was refused, and the same of it.
+    Refused { read_only: bool },
     /// A give up answered ended.
     GaveUp,
     /// Struck by the commit of another.

@@ -1,11 +1,12 @@
-//! Judges a whole run by demands 2 and 3 of document 01, and by what paper 1 of
-//! document 02 says of waits, from its calls and answers alone: no record and no
-//! rule of the machine is looked at. Each claim has a file of its own over one
-//! history.
+//! Judges a whole run by demands 2 and 3 of document 01, and by what papers 1 and
+//! 4 of document 02 say of waits and of those that only look, from its calls and
+//! answers alone: no record and no rule of the machine is looked at. Each claim
+//! has a file of its own over one history.
 
 mod commits;
 mod fits;
 mod history;
+mod looking;
 mod named;
 mod report;
 mod rounds;
@@ -56,6 +57,7 @@ pub fn check(run: &Run) -> Report {
     together::check(&history, &tables, &mut report);
     strikes::check(&history, &mut report);
     commits::check(&history, &mut report);
+    looking::check(&history, &mut report);
     named::check(&history, &mut report);
     told::check(&history, &mut report);
     rounds::check(&history, &mut report);

@@ -8,7 +8,7 @@ use super::report::{Claim, Report};
 pub(super) fn check(history: &History, report: &mut Report) {
     for (own, transaction) in history.transactions.iter().enumerate() {
         for happening in &transaction.happenings {
-            let Event::Waited { named, in_conflict } = &happening.event else {
+            let Event::Waited { named, in_conflict, .. } = &happening.event else {
                 continue;
             };
             for claim in broken(own, *named, in_conflict) {

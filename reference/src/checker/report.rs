@@ -32,8 +32,13 @@ pub enum Claim {
     /// Demand 3: of those in progress, begun earlier and in conflict none was
     /// begun before the one named.
     NamedFirst,
-    /// Demand 3: committed only while no earlier one is in conflict.
+    /// Demand 3, with paper 4: committed only while no earlier one is in conflict,
+    /// or with nothing written.
     CommitsInTurn,
+    /// Paper 4: waits is never answered to one that has written nothing.
+    ReadOnlyNeverWaits,
+    /// Paper 4: a commit of one that has written nothing is never refused.
+    ReadOnlyNeverRefused,
     /// Demand 3: set back is answered once after each strike, before anything
     /// else, and never without one.
     ToldOnce,

@@ -24,7 +24,7 @@ fn check_one(own: usize, transaction: &Transaction, report: &mut Report) {
                 told += 1;
                 told <= strikes
             }
-            Event::GaveUp => true,
+            Event::GaveUp | Event::Refused { .. } => true,
             _ => told >= strikes,
         };
         if !fits {

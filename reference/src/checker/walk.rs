@@ -35,11 +35,16 @@ struct Walk<'a> {
 }
 
 impl Walk<'_> {
-    /// Takes in the next call and its answer. A refused call does nothing.
+    /// Takes in the next call and its answer. A refused call does nothing; of a
+    /// commit it is remembered.
     fn step(&mut self, call: Call, answer: Answer) {
         let number = self.history.acts.len();
         self.history.acts.push(None);
         let fits = match (call, answer) {
+            (Call::Commit { core }, Answer::Refused(_)) => {
+                self.refuse(number, core);
+                true
+            }
             (_, Answer::Refused(_)) => true,
             (Call::Release { .. }, Answer::Running | Answer::Queued) => true,
             (Call::Finish { .. }, Answer::Finished(_)) => true,
@@ -65,6 +70,14 @@ impl Walk<'_> {
         true
     }
 
+    /// Remembers a refused commit for the transaction that asked, if there is one.
+    fn refuse(&mut self, number: usize, core: u32) {
+        if let Some(own) = self.on(core) {
+            let read_only = self.read_only(own);
+            self.happen(number, own, Event::Refused { read_only });
+        }
+    }
+
     /// Takes in a call made for the transaction in progress on its core. None
     /// if there is none or the answer does not fit.
     fn act(&mut self, number: usize, call: Call, answer: Answer) -> Option<()> {
@@ -83,7 +96,7 @@ impl Walk<'_> {
                 self.strike(number, own);
             }
             Event::GaveUp => self.end(number, core, own),
-            Event::Told | Event::Waited { .. } | Event::Struck { .. } => {}
+            Event::Told | Event::Waited { .. } | Event::Refused { .. } | Event::Struck { .. } => {}
         }
         self.history.acts[number] = Some(own);
         self.happen(number, own, event);
@@ -103,10 +116,12 @@ impl Walk<'_> {
                 Event::Told
             }
             (Call::Commit { .. }, Answer::Waits { core }) => {
-                Event::Waited { named: self.on(core), in_conflict: self.in_conflict(own) }
+                let (named, in_conflict) = (self.on(core), self.in_conflict(own));
+                Event::Waited { named, in_conflict, read_only: self.read_only(own) }
             }
             (Call::Commit { .. }, Answer::Committed(aborts)) => {
-                Event::Committed { aborts, in_conflict: self.in_conflict(own) }
+                let in_conflict = self.in_conflict(own);
+                Event::Committed { aborts, in_conflict, read_only: self.read_only(own) }
             }
             (Call::GiveUp { .. }, Answer::Ended) => Event::GaveUp,
             _ => return None,
@@ -142,6 +157,11 @@ impl Walk<'_> {
                 self.happen(number, other, Event::Struck { by });
             }
         }
+    }
+
+    /// Whether it has written nothing since its begin or since it was last struck.
+    fn read_only(&self, own: usize) -> bool {
+        self.written[own] == 0
     }
 
     /// The other transactions in progress that conflict with this one: one has

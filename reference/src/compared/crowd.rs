@@ -1,6 +1,6 @@
 //! Records with a transaction on nearly every core, their tickets in any order
 //! and anywhere up to the limit: for most commits there are several in the way,
-//! earlier ones that are not in conflict and later ones that are.
+//! earlier ones that are not in conflict and later ones that are. Some only look.
 
 use crate::random::Random;
 use crate::record::{Core, Job, Record, MAX_TICKETS};
@@ -21,7 +21,7 @@ pub fn crowd(record: &Record, random: &mut Random) -> Record {
         let core = &mut crowd.core[places[rank] as usize];
         begin(core, ticket, random);
         core.aborts = random.below(record.cores - rank as u32);
-        touch(core, &objects, random);
+        touch(core, &objects, record.objects, random);
     }
     count(&mut crowd);
     crowd
@@ -51,17 +51,23 @@ fn begin(core: &mut Core, ticket: u32, random: &mut Random) {
     (core.in_progress, core.ticket) = (true, ticket);
 }
 
-/// Up to one read and one write; few are marked and have touched nothing since.
-fn touch(core: &mut Core, objects: &[usize], random: &mut Random) {
-    let some = |random: &mut Random| -> Set {
-        match random.percent(50) {
+/// Up to one read and one write, or many reads on a display; few are marked and
+/// have touched nothing since.
+fn touch(core: &mut Core, objects: &[usize], of: u32, random: &mut Random) {
+    let some = |random: &mut Random, share: u32| -> Set {
+        match random.percent(share) {
             true => only(*random.pick(objects)),
             false => 0,
         }
     };
     core.zombie = core.aborts > 0 && random.percent(10);
-    if !core.zombie {
-        (core.read_set, core.write_set) = (some(random), some(random));
+    if core.zombie {
+        return;
+    }
+    core.read_set = some(random, 50);
+    match random.percent(10) {
+        true => core.read_set |= random.bits() & (Set::MAX >> (64 - of)),
+        false => core.write_set = some(random, 70),
     }
 }
 

@@ -22,6 +22,11 @@ const ENDED: u32 = 10;
 const FINISHED: u32 = 11;
 const REFUSED: u32 = 12;
 
+/// The count of commits among `words::COUNTS`, and the aborts of a core among
+/// `words::CORE_FIELDS`.
+const COMMITS: usize = 3;
+const ABORTS: usize = 3;
+
 /// What the door was given and what it left.
 pub struct Left<'a> {
     given: &'a Record,
@@ -67,6 +72,15 @@ impl Left<'_> {
 
     fn spent(&self) -> bool {
         matches!(self.call, Call::Begin { .. }) && self.given.tickets == u32::MAX
+    }
+
+    /// The core of a commit of one that only looks.
+    fn looks(&self) -> Option<usize> {
+        match (self.kind, self.call) {
+            (COMMITTED, Call::Commit { core }) => Some(core as usize),
+            _ => None,
+        }
+        .filter(|&core| self.given.core[core].read_only())
     }
 
     /// A word of the record and the answer's values.
@@ -120,6 +134,7 @@ pub fn faults() -> Vec<Fault> {
     let all = [
         answers(),
         named(),
+        read_only(),
         refusals(),
         orders(),
         fields(),
@@ -224,6 +239,72 @@ fn others(record: &Record, own: usize) -> impl Iterator<Item = usize> + '_ {
 fn in_conflict(record: &Record, own: usize) -> impl Iterator<Item = usize> + '_ {
     let conflict = move |&other: &usize| record.core[own].conflicts_with(&record.core[other]);
     others(record, own).filter(conflict)
+}
+
+/// A wrong rule for those that only look.
+fn read_only() -> Vec<Fault> {
+    let mut faults = Vec::new();
+    faults.push(fault("one that only looks waits", |left| {
+        if let Some(first) = left.looks().and_then(|own| first_in_the_way(left.given, own)) {
+            left.says(WAITS, first as u32);
+        }
+    }));
+    faults.push(fault("one that has touched nothing waits", |left| {
+        let idle = left.looks().filter(|&own| left.given.core[own].read_set == 0);
+        if let Some(other) = idle.and_then(|own| others(left.given, own).next()) {
+            left.says(WAITS, other as u32);
+        }
+    }));
+    faults.push(fault("one that only looks after a setback waits", |left| {
+        let told = left.looks().filter(|&own| left.given.core[own].aborts > 0);
+        if let Some(first) = told.and_then(|own| first_in_the_way(left.given, own)) {
+            left.says(WAITS, first as u32);
+        }
+    }));
+    faults.push(fault("a marked one commits", |left| {
+        if let (SET_BACK, Call::Commit { core }) = (left.kind, left.call) {
+            left.says(COMMITTED, left.given.core[core as usize].aborts);
+        }
+    }));
+    faults.push(fault("nobody waits for one that only looks", |left| {
+        if let (WAITS, Call::Commit { core }) = (left.kind, left.call) {
+            let record = left.given;
+            if record.in_the_way(core as usize).all(|other| record.core[other].read_only()) {
+                left.says(COMMITTED, record.core[core as usize].aborts);
+            }
+        }
+    }));
+    faults.push(fault("the commit of one that only looks raises a version", |left| {
+        if let Some(object) = left.looks().and_then(|own| first_read(left.given, own)) {
+            *left.word(VERSIONS + object) += 1;
+        }
+    }));
+    faults.push(fault("the commit of one that only looks strikes a reader", |left| {
+        let Some(own) = left.looks() else { return };
+        let shares =
+            |&other: &usize| left.given.core[other].read_set & left.given.core[own].read_set != 0;
+        if let Some(other) = others(left.given, own).find(shares) {
+            let aborts = core_place(other) + JOB_WORDS + ABORTS;
+            *left.word(aborts) += 1;
+        }
+    }));
+    faults.push(fault("the commit of one that only looks is not counted", |left| {
+        if left.looks().is_some() {
+            *left.word(COMMITS) -= 1;
+        }
+    }));
+    faults
+}
+
+/// The core with the smallest conflicting ticket, if that is a smaller one.
+fn first_in_the_way(record: &Record, own: usize) -> Option<usize> {
+    record.in_the_way(own).min_by_key(|&other| record.core[other].ticket)
+}
+
+/// An object that the transaction has read.
+fn first_read(record: &Record, own: usize) -> Option<usize> {
+    let read_set = record.core[own].read_set;
+    (read_set != 0).then(|| read_set.trailing_zeros() as usize)
 }
 
 /// A refused call that says another number or changes something.

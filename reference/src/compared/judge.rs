@@ -77,7 +77,7 @@ impl<D: Door> Judge<D> {
         if let Some(what) = self.differences(told, answer.into(), world) {
             return Err(Difference { part, given: Box::new(given), call, lengths, what });
         }
-        self.tally.count(part, &given, call, answer, lengths);
+        self.tally.count(part, &given, call, answer, world);
         Ok(answer)
     }
 

@@ -7,6 +7,7 @@ use super::broken::{broken, WAYS};
 use super::crowd::crowd;
 use super::judge::{Difference, Door, Judge, World};
 use super::limits::near_limits;
+use super::tally::RUNS;
 use super::words::call_of;
 use crate::answer::Answer;
 use crate::call::Call;
@@ -30,7 +31,7 @@ pub fn compare_seed<D: Door>(judge: &mut Judge<D>, seed: u64) -> Result<(), Diff
     let mut world = World { record: Record::blank(), committed: vec![], pending: vec![] };
     lend_right(&mut world, &mut random, cores, objects);
     refused_setups(judge, &world, &mut random)?;
-    judge.call("runs", &mut world, Call::Setup { cores, objects })?;
+    judge.call(RUNS, &mut world, Call::Setup { cores, objects })?;
     let aged = random.percent(25);
     for number in 0..RUN {
         if aged && number == RUN - NEAR_THE_END {
@@ -73,7 +74,7 @@ struct Turn<'a, D> {
 
 impl<D: Door> Subject for Turn<'_, D> {
     fn call(&mut self, call: Call) -> Answer {
-        match self.judge.call("runs", self.world, call) {
+        match self.judge.call(RUNS, self.world, call) {
             Ok(answer) => answer,
             Err(difference) => {
                 self.difference = Some(difference);

@@ -2,9 +2,11 @@
 //! nothing about it.
 
 use super::broken::WAYS;
+use super::judge::World;
 use super::words::{numbers, Told, CALLS, KINDS};
 use crate::answer::Answer;
 use crate::call::Call;
+use crate::looking::{Looking, CASES};
 use crate::record::{Record, MAX_OBJECTS, MAX_TICKETS};
 use crate::refusal;
 use crate::set::only;
@@ -102,6 +104,9 @@ const SIGHTS: [&str; 22] = [
     OPEN_SPENT,
 ];
 
+/// How the calls of a run come about; all others are side steps.
+pub const RUNS: &str = "runs";
+
 /// The counts.
 #[derive(Default)]
 pub struct Tally {
@@ -113,18 +118,23 @@ pub struct Tally {
     broken: BTreeMap<usize, [u64; 8]>,
     misfits: [[u64; 8]; 6],
     sights: BTreeMap<&'static str, u64>,
+    /// What the run so far says of those that only look.
+    looking: Looking,
 }
 
 impl Tally {
-    /// Counts a call on which both agreed.
+    /// Counts a call on which both agreed, by the record before it and the tables
+    /// after it.
     pub(super) fn count(
         &mut self,
         part: &'static str,
         given: &Record,
         call: Call,
         answer: Answer,
-        lengths: (usize, usize),
+        after: &World,
     ) {
+        let World { committed, pending, .. } = after;
+        let lengths = (committed.len(), pending.len());
         self.calls += 1;
         *self.parts.entry(part).or_default() += 1;
         let place = numbers(call)[0] as usize;
@@ -147,6 +157,12 @@ impl Tally {
             }
             (Call::Commit { core }, _) => self.see_commit(given, core as usize, answer),
             _ => {}
+        }
+        let mut aside = Looking::default();
+        let looking = if part == RUNS { &mut self.looking } else { &mut aside };
+        let cases = looking.see(given, call, answer, committed, pending);
+        for (case, met) in CASES.into_iter().zip(cases) {
+            self.see(case, met);
         }
     }
 
@@ -263,7 +279,8 @@ impl Tally {
                 }
             }
         }
-        let unseen = SIGHTS.iter().filter(|&sight| !self.sights.contains_key(sight));
+        let sights = SIGHTS.iter().chain(&CASES);
+        let unseen = sights.filter(|&sight| !self.sights.contains_key(sight));
         never.extend(unseen.map(|sight| sight.to_string()));
         never
     }

@@ -7,7 +7,7 @@ use cards_reference::call::Call;
 use cards_reference::contended::Subject;
 use cards_reference::machine::Machine;
 use cards_reference::record::{Record, MAX_CORES};
-use cards_reference::set::Set;
+use cards_reference::set::{only, Set};
 
 /// What is wrong with the machine.
 #[derive(Clone, Copy, Debug, PartialEq, Eq)]
@@ -46,6 +46,12 @@ pub enum Knot {
     NamesLater,
     /// or a core with no transaction.
     NamesIdle,
+    /// One that only looks waits like any other,
+    ReaderWaits,
+    /// or nobody waits for it,
+    ReaderPassed,
+    /// or its commit raises the versions of what it read.
+    ReaderRaises,
     /// Every borrower is refused.
     RefusesAll,
     /// Tickets are said to be spent.
@@ -114,6 +120,12 @@ impl Knotted {
         match self.knot {
             Knot::WaitsToAll => return Answer::Waits { core: 0 },
             Knot::WaitsForNobody if !asked => return Answer::Waits { core: 0 },
+            Knot::ReaderWaits if before.core[core].read_only() => {
+                if let Some(other) = before.in_the_way(core).next() {
+                    return Answer::Waits { core: other as u32 };
+                }
+            }
+            Knot::ReaderPassed if readers_only(&before, core) => self.go_first(core),
             Knot::WriteSetsOnly => self.hide_reads(),
             Knot::NoTickets => self.go_first(core),
             Knot::KeptSets => self.revive_dead(),
@@ -125,7 +137,12 @@ impl Knotted {
             Knot::NewTicket => self.each_struck(&before, new_ticket),
             Knot::CountedTwice => self.each_struck(&before, |record, c| record.core[c].aborts += 1),
             Knot::WriteSetsOnly => self.show_reads(&before),
-            Knot::NoTickets => self.restore_tickets(&before),
+            Knot::NoTickets | Knot::ReaderPassed => self.restore_tickets(&before),
+            Knot::ReaderRaises if before.core[core].read_only() => {
+                let read = before.core[core].read_set;
+                let versions = self.machine.record.versions.iter_mut().enumerate();
+                versions.for_each(|(d, version)| *version += u32::from(read & only(d) != 0));
+            }
             Knot::KeptSets => self.bury_dead(&before),
             Knot::MovesNothing => self.machine.committed_mut().copy_from_slice(&table),
             Knot::FirstOnly if before.core[core].ticket > 0 => {
@@ -229,6 +246,11 @@ impl Knotted {
             }
         }
     }
+}
+
+/// Whether all in the way of this core only look.
+fn readers_only(record: &Record, core: usize) -> bool {
+    record.in_the_way(core).all(|other| record.core[other].read_only())
 }
 
 /// The next ticket; the old one counts as given up, so that the sum is right.

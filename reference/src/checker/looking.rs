@@ -1,0 +1,19 @@
+//! Paper 4 of document 02: an attempt that only looks ends with its own commit
+//! when that is requested. Its first commit that is not answered set back is
+//! answered committed: never waits, and it is not refused.
+
+use super::history::{Event, History};
+use super::report::{Claim, Report};
+
+pub(super) fn check(history: &History, report: &mut Report) {
+    for (own, transaction) in history.transactions.iter().enumerate() {
+        for happening in &transaction.happenings {
+            let claim = match happening.event {
+                Event::Waited { read_only: true, .. } => Claim::ReadOnlyNeverWaits,
+                Event::Refused { read_only: true } => Claim::ReadOnlyNeverRefused,
+                _ => continue,
+            };
+            report.add(happening.call, claim, Some(own));
+        }
+    }
+}
