@@ -13,6 +13,7 @@ use core::inside::transaction::is_struck;
 use machine::Machine;
 use machine::Outcome;
 use machine::inside::calls::find;
+use machine::inside::calls::find_core;
 use machine::inside::commit::ahead_of;
 use machine::inside::commit::write_back;
 ghost use mathlib.Core.Path.{_≡_};
@@ -222,7 +223,7 @@ fn inside_run(first: Machine, list: &[u32], committed: &mut [u32], pending: &mut
                     last = done.answer;
                 }
                 Ask::Commit => {
-                    let to = find(core, 0, m.cores, m.objects);
+                    let to = find_core(core, m.cores);
                     let c = to.core;
                     let k = m.core[c];
                     let done = settle(to.refusal, k, ahead_of(m, k));

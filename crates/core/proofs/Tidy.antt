@@ -1,16 +1,18 @@
 -- The rules that a core keeps by itself as plain statements: `Tidy objects k` holds if and only if the test `tidy objects k` passes.
-use mathlib.Core.Path.{_≡_, sym, ap, _∙_}
-use mathlib.Core.Bool.{true, false, not, _&&_, true≢false}
+use mathlib.Core.Path.{_≡_, refl, sym, ap, _∙_}
+use mathlib.Core.Bool.{Bool, true, false, not, _&&_, true≢false}
 use Prim.Native.Nat.{ℕ, _≤_, _<_}
 use native.Mathlib.Omega.{arith}
 use lib.Dec.{eqb, leb, ltb}
 use borrow.Author.Tests.{ltb-true, leb-true, eqb-true, lt-ltb, le-leb, not-true}
-use Rattle.objset.specs.Objset.{has, each, below}
+use Rattle.objset.specs.Objset.{has, each, below, isEmpty}
 use Rattle.objset.proofs.Digits.{has-zero}
-use Rattle.objset.proofs.Laws.{each-one, one-each}
+use Rattle.objset.proofs.Laws.{each-one, one-each, zero-empty}
 use Rattle.core.specs.declared.Core.{Core}
 use Rattle.core.specs.declared.Job.{Job}
 use Rattle.core.specs.Parts.{noJob, jobAt}
+use Rattle.core.specs.Life.{onlyLooks}
+use Rattle.core.specs.Calls.{Settles}
 use Rattle.core.specs.Tidy.{_⇒_, setsWithinOn, ownerListedOn, emptySets, clear, idleClearOn, zombieEmptyOn, fewJobsOn, zeroJob, unusedJobsOn, ownerFirstOn, unused, tidy, blankOn}
 use Rattle.core.proofs.TestLaws.{same-test, if-true, true-if, both}
 
@@ -212,3 +214,23 @@ blank-tidy objects k = same-test (blankOn k) (tidy objects k && unused k) to fro
         one-each 8 _
         (λ p l. if-true (leb (k .count) p) (zeroJob (jobAt k p)) (each-one 8 _ (j .1) p l) (le-leb (k .count) p (omega (arith, none)))) in
         rw (off, c .no-mark, none, c .no-owner, c .no-ticket, c .no-aborts, jobs, c .no-reads, c .no-writes)
+
+-- ---- where it has written, it is in progress and not marked
+
+pub tidy-settles : (objects : ℕ) (k : Core) → Tidy objects k → Settles k
+tidy-settles objects k t =
+    record {
+      written-active = λ wrote. go (k .active) refl (λ off. looks (t .idle-clear off .no-writes) wrote);
+      written-unmarked = λ wrote. mark (k .zombie) refl (λ on. looks (t .zombie-empty on .1) wrote);
+    }
+  where
+    looks : k .writes ≡ 0 → onlyLooks k ≡ false → ⊥
+    looks none wrote = true≢false (sym (ap isEmpty none ∙ zero-empty) ∙ wrote)
+
+    go : (a : Bool) → k .active ≡ a → (k .active ≡ false → ⊥) → k .active ≡ true
+    go true on h = on
+    go false off h = absurd (h off)
+
+    mark : (z : Bool) → k .zombie ≡ z → (k .zombie ≡ true → ⊥) → k .zombie ≡ false
+    mark true on h = absurd (h on)
+    mark false off h = off

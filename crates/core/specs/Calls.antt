@@ -1,6 +1,6 @@
 -- What a call gives on its core (document 01), once the core and the card are found: refusals first, in the order of their numbers.
 use mathlib.Core.Path.{_≡_}
-use mathlib.Core.Bool.{Bool, true, cond, not}
+use mathlib.Core.Bool.{Bool, true, false, cond, not}
 use mathlib.Core.List.{List, [], _∷_}
 use Prim.Native.Nat.{ℕ, zero, suc, _+_, _≤_, _<_}
 use lib.Dec.{eqb, leb, ltb}
@@ -15,7 +15,7 @@ use Rattle.core.specs.declared.calls.Seen.{Seen}
 use Rattle.core.specs.declared.calls.Acted.{Acted}
 use Rattle.core.specs.declared.calls.Settled.{Settled}
 use Rattle.core.specs.Parts.{mostCores, mostJobs, jobAt, running}
-use Rattle.core.specs.Life.{withJob, withoutJob, withTransaction, unmarked, withRead, withWrite, over}
+use Rattle.core.specs.Life.{withJob, withoutJob, withTransaction, unmarked, withRead, withWrite, over, onlyLooks}
 
 -- the first condition that holds, by its number; 0 where none does
 unfoldable pub first : List (Bool × ℕ) → ℕ
@@ -137,7 +137,7 @@ pub record Fits (k : Core) (s : Seen) : Type 0 where
   pub few-jobs : k .count ≤ mostJobs
   pub one-more : k .active ≡ true → s .«give_ups» < 4294967295
 
--- ---- commit, on its own core; e is the core that is first ahead of it, 16 or more where none is
+-- ---- commit, on its own core; e is the core that it has to wait for, 16 or more where there is none
 
 -- it does not go through: the write set that it commits is empty
 abbrev pub stays : Core → Answer → Settled
@@ -146,6 +146,11 @@ stays k a = record { core = k; writes = 0; commits = 0; answer = a }
 -- it goes through: the transaction is over and its write set is committed
 abbrev pub passes : Core → Settled
 passes k = record { core = over k; writes = k .writes; commits = 1; answer = Committed (k .aborts) }
+
+-- what a sound record gives of its core: where a transaction has written, it is in progress and not marked
+pub record Settles (k : Core) : Type 0 where
+  pub written-active : onlyLooks k ≡ false → k .active ≡ true
+  pub written-unmarked : onlyLooks k ≡ false → k .zombie ≡ false
 
 -- 9 where none is in progress
 unfoldable pub commitOn : ℕ → Core → ℕ → Settled

@@ -1,6 +1,7 @@
 // What a call gives on its core, once the core and the card are found: the six calls that concern one core, and the part of commit that
 // does. Each promise is an equation with a definition of specs/Calls.antt. `act_on` asks for a list of at most 8 jobs and, while a transaction
-// is in progress, for a count of give-ups that can rise (`Fits`); `begin`, `give_up` and `finish` for their part of it.
+// is in progress, for a count of give-ups that can rise (`Fits`); `begin`, `give_up` and `finish` for their part of it; `settle` for a core that is in
+// progress and not marked where it has written (`Settles`).
 use crate::Answer;
 use crate::CORES;
 use crate::Core;
@@ -12,7 +13,7 @@ use crate::inside::transaction;
 ghost use mathlib.Core.Path.{_≡_};
 ghost use mathlib.Core.Bool.{true};
 ghost use Prim.Native.Nat.{_≤_, _<_};
-ghost use Rattle.core.specs.Calls.{objectOf, leftOn, releaseOn, beginOn, readOn, writeOn, giveUpOn, finishOn, actOn, stays, commitOn, Fits};
+ghost use Rattle.core.specs.Calls.{objectOf, leftOn, releaseOn, beginOn, readOn, writeOn, giveUpOn, finishOn, actOn, stays, commitOn, Fits, Settles};
 ghost use Rattle.core.specs.Parts.{mostJobs};
 
 // The most jobs, as the list's count has them.
@@ -228,19 +229,22 @@ fn staying(k: Core, answer: Answer) -> Settled
 }
 
 // What a commit gives on its own core: a refusal that is known before, of that number; 9 none in progress; a marked transaction is told
-// that it was set back; one that is held back, first by core `ahead`, waits and names it; any other is over and its write set is committed.
-// From NOBODY on `ahead` is no core.
+// that it was set back; one that has to wait, first for core `ahead`, waits and names it; any other is over and its write set is committed.
+// From NOBODY on `ahead` is no core. One that has written is in progress and not marked, so neither is looked at.
 pub fn settle(refusal: u8, k: Core, ahead: u8) -> Settled
+    requires { ⌜ Settles k ⌝ }
     ensures { λ r. ⌜ r ≡ commitOn refusal k ahead ⌝ }
 {
     if refusal != 0 {
         return staying(k, Answer::Refused(refusal));
     }
-    if !k.active {
-        return staying(k, Answer::Refused(9));
-    }
-    if k.zombie {
-        return staying(transaction::tell(k), Answer::SetBack);
+    if transaction::only_looks(k) {
+        if !k.active {
+            return staying(k, Answer::Refused(9));
+        }
+        if k.zombie {
+            return staying(transaction::tell(k), Answer::SetBack);
+        }
     }
     if ahead < NOBODY {
         return staying(k, Answer::Waits(ahead));

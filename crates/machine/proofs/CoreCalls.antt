@@ -8,7 +8,7 @@ use native.Mathlib.Omega.{arith}
 use lib.Dec.{ltb}
 use lib.ListN.{getD, set}
 use lib.Seq.{set-getD}
-use borrow.Author.Tests.{ltb-true, ltb-false}
+use borrow.Author.Tests.{ltb-true, ltb-false, lt-ltb}
 use Rattle.core.specs.declared.Core.{Core}
 use Rattle.core.specs.declared.Answer.{Answer}
 use Rattle.core.specs.declared.Answer.the-variants.{Refused}
@@ -17,8 +17,9 @@ use Rattle.core.specs.declared.calls.Act.the-variants as Act
 use Rattle.core.specs.declared.calls.Seen.{Seen}
 use Rattle.core.specs.declared.calls.Acted.{Acted}
 use Rattle.core.specs.Calls as Core
-use Rattle.core.specs.Calls.{first, objectOf, Fits, taken, actOn, releaseOn, beginOn, readOn, writeOn, giveUpOn, finishOn}
+use Rattle.core.specs.Calls.{first, objectOf, Fits, Settles, taken, actOn, releaseOn, beginOn, readOn, writeOn, giveUpOn, finishOn}
 use Rattle.core.proofs.CallLaws.{skips, hits}
+use Rattle.core.proofs.Tidy.{tidy-settles}
 use Rattle.machine.specs.declared.Machine.{Machine}
 use Rattle.machine.specs.declared.Outcome.{Outcome}
 use Rattle.machine.specs.declared.inside.calls.Found.{Found}
@@ -213,6 +214,15 @@ found-core c d cores objects some = found-either (λ to. to .core < cores) c d c
 pub found-object : (c d cores objects : ℕ) → 0 < objects → found c d cores objects .object < objects
 found-object c d cores objects some = found-either (λ to. to .object < objects) c d cores objects (λ h l. l) some some
 
+-- a call that names no card finds its core as if it named card 0
+pub core-found : (m : Machine) → sound m ≡ true → (c : ℕ) (to : Found) → to ≡ found c 0 (m .cores) 1 → to ≡ found c 0 (m .cores) (m .objects)
+unfolding found
+core-found m s c to e =
+    e
+    ∙ ap
+    (λ (q : Bool). cond (ltb c (m .cores)) (cond q (record { core = c; object = 0; refusal = 0 }) (record { core = 0; object = 0; refusal = 5 })) (record { core = 0; object = 0; refusal = 4 }))
+    (sym (lt-ltb 0 (m .objects) (stands m s .some-objects)))
+
 -- a sound machine has a place for the core and the card found, and a word of the pending table
 module _ (m : Machine) (s : sound m ≡ true) (c d : ℕ) (to : Found) (e : to ≡ found c d (m .cores) (m .objects)) where
   pub to-core : to .core < m .cores
@@ -233,7 +243,11 @@ module _ (m : Machine) (s : sound m ≡ true) (c d : ℕ) (to : Found) (e : to �
   pub few-words : m .cores * m .objects ≤ 1024
   few-words = omega (arith, mul-le-mul (stands m s .few-cores) (stands m s .few-objects))
 
-  -- what the call on that core asks
+  -- what a commit on that core asks
+  pub to-settles : Settles (coreAt m (to .core))
+  to-settles = tidy-settles (m .objects) (coreAt m (to .core)) (stands m s .tidy (to .core) core-there)
+
+  -- what any other call on it asks
   pub to-fits : (seen : Seen) → seen .«give_ups» ≡ m .«give_ups» → m .tickets ≤ 4294967295 → Fits (coreAt m (to .core)) seen
   to-fits seen same fit =
       record {

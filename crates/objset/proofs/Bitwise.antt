@@ -13,8 +13,8 @@ use Rattle.objset.proofs.Digits.{has-or, has-and, has-mask, has-zero, h
 use Rattle.objset.proofs.Laws.{same-members, filled-one, one-filled, has-added, has-joined, added-fits, joined-fits, added-outside, meeting-one, one-meeting, below-member, member-below, member-bound}
 
 -- a word is 0 if and only if its set is empty
-pub zero-empty : (s : ℕ) → s < 2 ^ 64 → eqb s 0 ≡ isEmpty s
-zero-empty s hs = go (isEmpty s) refl
+pub zero-means-empty : (s : ℕ) → s < 2 ^ 64 → eqb s 0 ≡ isEmpty s
+zero-means-empty s hs = go (isEmpty s) refl
   where
     go : (q : Bool) → isEmpty s ≡ q → eqb s 0 ≡ q
     go true t = eq-eqb s 0 (same-members s 0 hs (omega arith) (λ d l. outside d l (has s d) refl ∙ sym (has-zero d)))

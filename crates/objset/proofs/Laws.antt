@@ -110,6 +110,10 @@ pub filled-one : (s : ℕ) → isEmpty s ≡ false → (d : ℕ) × (d < 64) × 
 unfolding isEmpty
 filled-one s e = some-one 64 (has s) (not-false (some 64 (has s)) e)
 
+pub zero-empty : isEmpty 0 ≡ true
+unfolding isEmpty some has
+zero-empty = refl
+
 pub one-filled : (s d : ℕ) → d < 64 → has s d ≡ true → isEmpty s ≡ false
 unfolding isEmpty
 one-filled s d l p = ap not (one-some 64 (has s) d l p)

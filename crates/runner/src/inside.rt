@@ -13,6 +13,7 @@ use core::inside::transaction::abort;
 use core::inside::transaction::is_struck;
 use listing::put_line;
 use machine::inside::calls::find;
+use machine::inside::calls::find_core;
 use machine::inside::commit::ahead_of;
 use machine::inside::commit::reach_of;
 use machine::inside::commit::write_back;
@@ -75,7 +76,7 @@ pub fn feed(
                         written += put_line(n, answer, &mut output[written..]);
                     }
                     Asked::Commit(core) => {
-                        let to = find(core, 0, machine.cores, machine.objects);
+                        let to = find_core(core, machine.cores);
                         let c = to.core;
                         let k = machine.core[c];
                         let done = settle(to.refusal, k, ahead_of(machine, k));

@@ -15,7 +15,7 @@ use Rattle.machine.specs.Rule.{lent}
 use Rattle.machine.specs.Inside.{WellFormedWorld}
 use Rattle.machine.specs.OneCore.{given, handed}
 use Rattle.machine.proofs.InsideLaws.{commit-left}
-use Rattle.machine.proofs.CoreCalls.{by-core-at, to-core, to-object, core-there, object-there, to-slot, few-words, to-fits}
+use Rattle.machine.proofs.CoreCalls.{by-core-at, to-core, to-object, core-there, object-there, to-slot, few-words, to-settles, to-fits, core-found}
 use Rattle.machine.proofs.CommitLaws.{Ready, ready, row-within, by-commit-at}
 use Rattle.machine.proofs.StrikeLoop.{withCores, Striking, striking-able, striking-hit, striking-missed, striking-done}
 use Rattle.bench_calls.specs.Lists.{inside, Progress, run}
@@ -75,40 +75,40 @@ inside-pending c = omega (arith, within c, good (asks c) .world-sound .pending-l
 
 -- ---- commit
 
-abbrev asks-2 : tie.After-find2 Inv-loop2 μ-loop2 Inv-loop μ-loop → tie.After-asked Inv-loop2 μ-loop2 Inv-loop μ-loop
+abbrev asks-2 : tie.After-find-core Inv-loop2 μ-loop2 Inv-loop μ-loop → tie.After-asked Inv-loop2 μ-loop2 Inv-loop μ-loop
 asks-2 c = c .before .before .before
 
-here : (c : tie.After-find2 Inv-loop2 μ-loop2 Inv-loop μ-loop) → c .find2 .result .core < asks-2 c .before .before .before .before .before .before .loop .m .cores
-here c = to-core _ (good (asks-2 c) .world-sound .is-sound) _ _ _ (c .find2 .ensures)
+here : (c : tie.After-find-core Inv-loop2 μ-loop2 Inv-loop μ-loop) → c .find-core .result .core < asks-2 c .before .before .before .before .before .before .loop .m .cores
+here c = to-core _ (good (asks-2 c) .world-sound .is-sound) _ _ _ (core-found _ (good (asks-2 c) .world-sound .is-sound) _ _ (c .find-core .ensures))
 
-there-2 : (c : tie.After-find2 Inv-loop2 μ-loop2 Inv-loop μ-loop) → c .find2 .result .core < 16
-there-2 c = core-there _ (good (asks-2 c) .world-sound .is-sound) _ _ _ (c .find2 .ensures)
+there-2 : (c : tie.After-find-core Inv-loop2 μ-loop2 Inv-loop μ-loop) → c .find-core .result .core < 16
+there-2 c = core-there _ (good (asks-2 c) .world-sound .is-sound) _ _ _ (core-found _ (good (asks-2 c) .world-sound .is-sound) _ _ (c .find-core .ensures))
 
 -- the words of the pending table for that core
-row : (c : tie.After-find2 Inv-loop2 μ-loop2 Inv-loop μ-loop) → let m = asks-2 c .before .before .before .before .before .before .loop .m in
-    c .find2 .result .core * m .objects + m .objects ≤ 1024
+row : (c : tie.After-find-core Inv-loop2 μ-loop2 Inv-loop μ-loop) → let m = asks-2 c .before .before .before .before .before .before .loop .m in
+    c .find-core .result .core * m .objects + m .objects ≤ 1024
 row c =
     let m = asks-2 c .before .before .before .before .before .before .loop .m in
-    omega (arith, row-within (c .find2 .result .core) (m .cores) (m .objects) (here c), few-words m (good (asks-2 c) .world-sound .is-sound) _ _ _ (c .find2 .ensures))
+    omega (arith, row-within (c .find-core .result .core) (m .cores) (m .objects) (here c), few-words m (good (asks-2 c) .world-sound .is-sound) _ _ _ (core-found _ (good (asks-2 c) .world-sound .is-sound) _ _ (c .find-core .ensures)))
 
 -- what the commit gives can be carried out
 able : (c : tie.After-settle Inv-loop2 μ-loop2 Inv-loop μ-loop) → let to = c .before .before .before in
-    Ready (asks-2 to .before .before .before .before .before .before .loop .m) (good (asks-2 to) .world-sound .is-sound) (to .find2 .result .core) (c .settle .result)
+    Ready (asks-2 to .before .before .before .before .before .before .loop .m) (good (asks-2 to) .world-sound .is-sound) (to .find-core .result .core) (c .settle .result)
 able c =
     let to = c .before .before .before in
     let world = good (asks-2 to) in
     let m = asks-2 to .before .before .before .before .before .before .loop .m in
-    subst (λ (r : Settled). Ready m (world .world-sound .is-sound) (to .find2 .result .core) r) (sym (c .settle .ensures))
-    (ready m (world .world-sound .is-sound) (to .find2 .result .core) _ _ (here to) (world .formed .core-long) (world .formed .tickets-fit))
+    subst (λ (r : Settled). Ready m (world .world-sound .is-sound) (to .find-core .result .core) r) (sym (c .settle .ensures))
+    (ready m (world .world-sound .is-sound) (to .find-core .result .core) _ _ (here to) (world .formed .core-long) (world .formed .tickets-fit))
 
 abbrev done-of : tie.At-loop2 Inv-loop2 μ-loop2 Inv-loop μ-loop → tie.After-settle Inv-loop2 μ-loop2 Inv-loop μ-loop
 done-of c = c .before .before .before .before .before .before .before .before .before
 
 sixteen : (c : tie.After-settle Inv-loop2 μ-loop2 Inv-loop μ-loop) → let to = c .before .before .before in
-    length (set (asks-2 to .before .before .before .before .before .before .loop .m .core) (to .find2 .result .core) (c .settle .result .core)) ≡ 16
+    length (set (asks-2 to .before .before .before .before .before .before .loop .m .core) (to .find-core .result .core) (c .settle .result .core)) ≡ 16
 sixteen c =
     let to = c .before .before .before in
-    length-set (asks-2 to .before .before .before .before .before .before .loop .m .core) (to .find2 .result .core) (c .settle .result .core) ∙ good (asks-2 to) .formed .core-long
+    length-set (asks-2 to .before .before .before .before .before .before .loop .m .core) (to .find-core .result .core) (c .settle .result .core) ∙ good (asks-2 to) .formed .core-long
 
 loop-holds : tie.Need-loop-holds Inv-loop2 μ-loop2 Inv-loop μ-loop
 loop-holds c = let start = c .before .before .before in (omega arith, refl, refl, start .pre, start .pre, refl)
@@ -233,8 +233,8 @@ loop-again-3 c =
 enum-told : tie.Need-enum-told Inv-loop2 μ-loop2 Inv-loop μ-loop
 enum-told c = search needs
 
-find-requires-2 : tie.Need-find-requires-2 Inv-loop2 μ-loop2 Inv-loop μ-loop
-find-requires-2 c κs = search needs
+find-core-requires : tie.Need-find-core-requires Inv-loop2 μ-loop2 Inv-loop μ-loop
+find-core-requires c κs = search needs
 
 mul-k-2 : tie.Need-mul-k-2 Inv-loop2 μ-loop2 Inv-loop μ-loop
 mul-k-2 c = record { fits = omega (arith, there-2 c) }
@@ -246,7 +246,9 @@ ahead-of-requires : tie.Need-ahead-of-requires Inv-loop2 μ-loop2 Inv-loop μ-lo
 ahead-of-requires c κs = search needs
 
 settle-requires : tie.Need-settle-requires Inv-loop2 μ-loop2 Inv-loop μ-loop
-settle-requires c κs = search needs
+settle-requires c κs =
+    let to = c .before .before in
+    to-settles _ (good (asks-2 to) .world-sound .is-sound) _ _ _ (core-found _ (good (asks-2 to) .world-sound .is-sound) _ _ (to .find-core .ensures))
 
 mul-after-2 : tie.Need-mul-after-2 Inv-loop2 μ-loop2 Inv-loop μ-loop
 mul-after-2 c = record { fits = omega (arith, there-2 (c .before .before .before .before)) }
@@ -269,7 +271,7 @@ write-back-requires c κs =
     let to = done .before .before .before in
     let m = asks-2 to .before .before .before .before .before .before .loop .m in
     let world = good (asks-2 to) in (
-      omega (arith, row-within (to .find2 .result .core) (m .cores) (m .objects) (here to), world .world-sound .committed-long, world .world-sound .pending-long),
+      omega (arith, row-within (to .find-core .result .core) (m .cores) (m .objects) (here to), world .world-sound .committed-long, world .world-sound .pending-long),
       (
         world .formed .versions-long,
         (
@@ -296,8 +298,8 @@ is-struck-requires c κs = search needs
 abort-requires : tie.Need-abort-requires Inv-loop2 μ-loop2 Inv-loop μ-loop
 abort-requires c κs = striking-able (c .before .before .before .before .loop2 .inv .1) (c .before .before .before .loop2-test .taken)
 
-mul-t79 : tie.Need-mul-t79 Inv-loop2 μ-loop2 Inv-loop μ-loop
-mul-t79 c = search needs
+mul-t78 : tie.Need-mul-t78 Inv-loop2 μ-loop2 Inv-loop μ-loop
+mul-t78 c = search needs
 
 element-set-from-m : tie.Need-element-set-from-m Inv-loop2 μ-loop2 Inv-loop μ-loop
 element-set-from-m c = search needs
@@ -332,9 +334,9 @@ loop-again-4 c =
     let at = asks .before .before .before .before .before .before .loop in
     let test = asks .before .before .before .before .before .loop-test .taken in
     let w = lent (at .m) (at .committed) (at .pending) in
-    let by = by-commit-at w (at .inv .3 .world-sound) (at .inv .3 .formed .core-long) _ (to .find2 .result) _ (done .settle .result) (to .find2 .ensures) (done .before .ahead-of .ensures) (done .settle .ensures) in
+    let by = by-commit-at w (at .inv .3 .world-sound) (at .inv .3 .formed .core-long) _ (to .find-core .result) _ (done .settle .result) (core-found _ (good (asks-2 to) .world-sound .is-sound) _ _ (to .find-core .ensures)) (done .before .ahead-of .ensures) (done .settle .ensures) in
     let all = striking-done (last .loop2 .inv .1) (omega (arith, c .loop2-test .left)) in
-    let same = carried-out w (to .find2 .result .core) (done .settle .result) _ _ _ (moved .ensures .0) (moved .ensures .1) all ∙ by in
+    let same = carried-out w (to .find-core .result .core) (done .settle .result) _ _ _ (moved .ensures .0) (moved .ensures .1) all ∙ by in
     let r : Outcome = record { answer = done .settle .result .answer; machine = last .loop2 .m } in
     let long = moved .kept .1 .1 .0 in (
       omega (arith, test),
@@ -423,7 +425,7 @@ inside-run-spec =
     loop-less-3
     loop-again-3
     enum-told
-    find-requires-2
+    find-core-requires
     mul-k-2
     element-copy-out-k-2
     ahead-of-requires
@@ -439,7 +441,7 @@ inside-run-spec =
     element-copy-out-other
     is-struck-requires
     abort-requires
-    mul-t79
+    mul-t78
     element-set-from-m
     add-e
     loop2-less

@@ -46,6 +46,13 @@ pub fn find(core: u32, object: u32, cores: u8, objects: u8) -> Found
     }
 }
 
+// The same for a call that names no object: 4 no such core.
+pub fn find_core(core: u32, cores: u8) -> Found
+    ensures { λ r. ⌜ r ≡ found core 0 cores 1 ⌝ }
+{
+    find(core, 0, cores, 1)
+}
+
 // A call that is lent no table: release, begin, give up, finish. (A read or a write would find tables of zeros.)
 pub fn alone(mut m: Machine, core: u32, a: Act) -> Outcome
     requires { ⌜ sound m ≡ true ⌝ }

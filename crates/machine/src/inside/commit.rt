@@ -3,7 +3,7 @@
 // sums in range.
 use crate::Machine;
 use crate::Outcome;
-use crate::inside::calls::find;
+use crate::inside::calls::find_core;
 use core::CORES;
 use core::Core;
 use core::calls::NOBODY;
@@ -105,7 +105,7 @@ pub fn commit(mut m: Machine, core: u32, committed: &mut [u32], pending: &mut [u
     requires { ⌜ SoundWorld (lent m (now committed) (now pending)) ⌝ }
     ensures rule { λ r. ⌜ left r (now (committed .exit)) (now (pending .exit)) ≡ commitRule (lent m (now (committed .entry)) (now (pending .entry))) core ⌝ }
 {
-    let to = find(core, 0, m.cores, m.objects);
+    let to = find_core(core, m.cores);
     let c = to.core;
     let k = m.core[c];
     let done = settle(to.refusal, k, ahead_of(m, k));

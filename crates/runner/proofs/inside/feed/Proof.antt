@@ -15,7 +15,7 @@ use Rattle.core.specs.declared.Answer.{Answer}
 use Rattle.core.specs.declared.calls.Settled.{Settled}
 use Rattle.machine.specs.Inside.{WellFormedWorld}
 use Rattle.machine.proofs.Sound.Keeps.{whole}
-use Rattle.machine.proofs.CoreCalls.{to-core, core-there, object-there, to-slot, to-fits}
+use Rattle.machine.proofs.CoreCalls.{core-found, to-core, core-there, object-there, to-slot, to-settles, to-fits}
 use Rattle.machine.proofs.CoreLists.{strikes-reached}
 use Rattle.machine.proofs.StrikeLoop.{withCores, Striking, reached, striking-place, striking-able, striking-hit, striking-missed}
 use Rattle.machine.proofs.CommitLaws.{Ready, ready}
@@ -182,14 +182,14 @@ enum-known-asked-4 c = search needs
 good-commit : (c : tie.After-known-told4 Inv-loop2 μ-loop2 Inv-loop μ-loop) → let e = c .before .before .before in WellFormedWorld (held (head e .loop .machine) (head e .loop .committed) (head e .loop .pending))
 good-commit c = good (c .before .before .before) _ (c .before .asked4 .given .1) refl
 
-find-requires : tie.Need-find-requires Inv-loop2 μ-loop2 Inv-loop μ-loop
-find-requires c κs = search needs
+find-core-requires : tie.Need-find-core-requires Inv-loop2 μ-loop2 Inv-loop μ-loop
+find-core-requires c κs = search needs
 
-here : (c : tie.After-find Inv-loop2 μ-loop2 Inv-loop μ-loop) → c .find .result .core < head (c .before .before .before .before) .loop .machine .cores
-here c = to-core _ (good-commit (c .before) .world-sound .is-sound) _ _ _ (c .find .ensures)
+here : (c : tie.After-find-core Inv-loop2 μ-loop2 Inv-loop μ-loop) → c .find-core .result .core < head (c .before .before .before .before) .loop .machine .cores
+here c = to-core _ (good-commit (c .before) .world-sound .is-sound) _ _ _ (core-found _ (good-commit (c .before) .world-sound .is-sound) _ _ (c .find-core .ensures))
 
-there : (c : tie.After-find Inv-loop2 μ-loop2 Inv-loop μ-loop) → c .find .result .core < 16
-there c = core-there _ (good-commit (c .before) .world-sound .is-sound) _ _ _ (c .find .ensures)
+there : (c : tie.After-find-core Inv-loop2 μ-loop2 Inv-loop μ-loop) → c .find-core .result .core < 16
+there c = core-there _ (good-commit (c .before) .world-sound .is-sound) _ _ _ (core-found _ (good-commit (c .before) .world-sound .is-sound) _ _ (c .find-core .ensures))
 
 mul-k : tie.Need-mul-k Inv-loop2 μ-loop2 Inv-loop μ-loop
 mul-k c = record { fits = omega (arith, there c) }
@@ -201,7 +201,9 @@ ahead-of-requires : tie.Need-ahead-of-requires Inv-loop2 μ-loop2 Inv-loop μ-lo
 ahead-of-requires c κs = search needs
 
 settle-requires : tie.Need-settle-requires Inv-loop2 μ-loop2 Inv-loop μ-loop
-settle-requires c κs = search needs
+settle-requires c κs =
+    let at = c .before .before in
+    to-settles _ (good-commit (at .before) .world-sound .is-sound) _ _ _ (core-found _ (good-commit (at .before) .world-sound .is-sound) _ _ (at .find-core .ensures))
 
 mul-after : tie.Need-mul-after Inv-loop2 μ-loop2 Inv-loop μ-loop
 mul-after c = record { fits = omega (arith, there (c .before .before .before .before)) }
@@ -211,13 +213,13 @@ element-set-from-after c = there (c .before .before .before .before)
 
 -- what the commit gives can be carried out
 able : (c : tie.After-settle Inv-loop2 μ-loop2 Inv-loop μ-loop) → let at = c .before .before .before in
-    Ready (head (at .before .before .before .before) .loop .machine) (good-commit (at .before) .world-sound .is-sound) (at .find .result .core) (c .settle .result)
+    Ready (head (at .before .before .before .before) .loop .machine) (good-commit (at .before) .world-sound .is-sound) (at .find-core .result .core) (c .settle .result)
 able c =
     let at = c .before .before .before in
     let g = good-commit (at .before) in
     let m = head (at .before .before .before .before) .loop .machine in
-    subst (λ (r : Settled). Ready m (g .world-sound .is-sound) (at .find .result .core) r) (sym (c .settle .ensures))
-    (ready m (g .world-sound .is-sound) (at .find .result .core) _ _ (here at) (g .formed .core-long) (g .formed .tickets-fit))
+    subst (λ (r : Settled). Ready m (g .world-sound .is-sound) (at .find-core .result .core) r) (sym (c .settle .ensures))
+    (ready m (g .world-sound .is-sound) (at .find-core .result .core) _ _ (here at) (g .formed .core-long) (g .formed .tickets-fit))
 
 add-machine : tie.Need-add-machine Inv-loop2 μ-loop2 Inv-loop μ-loop
 add-machine c = record { fits = omega (arith, able (c .before .before) .counted) }
@@ -226,9 +228,9 @@ cast-base : tie.Need-cast-base Inv-loop2 μ-loop2 Inv-loop μ-loop
 cast-base c = record { fits = omega (arith, whole (good-commit (c .before .before .before .before .before .before)) .rules .few-objects) }
 
 -- the core's words stand in the pending table
-row : (c : tie.After-find Inv-loop2 μ-loop2 Inv-loop μ-loop) → c .find .result .core * head (c .before .before .before .before) .loop .machine .objects ≤ 960
+row : (c : tie.After-find-core Inv-loop2 μ-loop2 Inv-loop μ-loop) → c .find-core .result .core * head (c .before .before .before .before) .loop .machine .objects ≤ 960
 row c =
-    let low : c .find .result .core ≤ 15 = omega (arith, there c) in
+    let low : c .find-core .result .core ≤ 15 = omega (arith, there c) in
     mul-le-mul low (whole (good-commit (c .before)) .rules .few-objects)
 
 mul-base : tie.Need-mul-base Inv-loop2 μ-loop2 Inv-loop μ-loop
@@ -259,7 +261,7 @@ loop2-holds c =
     let at = c .before .before .before .before .before .before .before .before .before .before .before .before in
     record {
       long =
-          length-set (head (at .before .before .before .before) .loop .machine .core) (at .find .result .core) (done .settle .result .core) ∙ good-commit (at .before) .formed .core-long;
+          length-set (head (at .before .before .before .before) .loop .machine .core) (at .find-core .result .core) (done .settle .result .core) ∙ good-commit (at .before) .formed .core-long;
       few = reached (c .reach-of .result) (done .settle .result .writes) (c .reach-of .ensures);
       strikable = able done .strikable;
       stands = (refl, refl);
@@ -278,8 +280,8 @@ is-struck-requires c κs = search needs
 abort-requires : tie.Need-abort-requires Inv-loop2 μ-loop2 Inv-loop μ-loop
 abort-requires c κs = striking-able (c .before .before .before .before .loop2 .inv) (c .before .before .before .loop2-test .taken)
 
-mul-t94 : tie.Need-mul-t94 Inv-loop2 μ-loop2 Inv-loop μ-loop
-mul-t94 c = record { fits = omega (arith, striking-place (c .before .before .before .before .before .loop2 .inv) (c .before .before .before .before .loop2-test .taken)) }
+mul-t93 : tie.Need-mul-t93 Inv-loop2 μ-loop2 Inv-loop μ-loop
+mul-t93 c = record { fits = omega (arith, striking-place (c .before .before .before .before .before .loop2 .inv) (c .before .before .before .before .loop2-test .taken)) }
 
 element-set-from-machine : tie.Need-element-set-from-machine Inv-loop2 μ-loop2 Inv-loop μ-loop
 element-set-from-machine c = striking-place (c .before .before .before .before .before .loop2 .inv) (c .before .before .before .before .loop2-test .taken)
@@ -328,7 +330,7 @@ loop-again-4 c =
     let at = c .before .before .before .before .before .before .before .before .before .before .before .before .before .before .before .before .before .before in
     let holds = head e .loop .inv .fit .holds in
     done-same _ _ _ refl refl (outcome-same (struck .inv .same) refl)
-    (commit-done _ _ _ (good-commit (at .before)) (holds .committed-long) (holds .pending-long) _ (at .find .result) _ (done .settle .result) (at .find .ensures)
+    (commit-done _ _ _ (good-commit (at .before)) (holds .committed-long) (holds .pending-long) _ (at .find-core .result) _ (done .settle .result) (core-found _ (good-commit (at .before) .world-sound .is-sound) _ _ (at .find-core .ensures))
     (done .before .ahead-of .ensures) (done .settle .ensures) (able done .within) (struck .machine .core) _ _
     (strikes-reached (done .settle .result .writes) _ (struck .e) (struck .machine .core) (struck .inv .stands) (struck .inv .long)
     (subst (λ (n : ℕ). n ≤ struck .e) (c .before .before .before .before .before .before .reach-of .ensures) (c .before .before .before .before .loop2-test .left)))
@@ -346,20 +348,20 @@ good-one c = good (c .before .before .before) _ (c .before .asked5 .given .1) re
 object-of-requires : tie.Need-object-of-requires Inv-loop2 μ-loop2 Inv-loop μ-loop
 object-of-requires c κs = search needs
 
-find-requires-2 : tie.Need-find-requires-2 Inv-loop2 μ-loop2 Inv-loop μ-loop
-find-requires-2 c κs = search needs
+find-requires : tie.Need-find-requires Inv-loop2 μ-loop2 Inv-loop μ-loop
+find-requires c κs = search needs
 
-there-one : (c : tie.After-find2 Inv-loop2 μ-loop2 Inv-loop μ-loop) → c .find2 .result .core < 16
-there-one c = core-there _ (good-one (c .before .before) .world-sound .is-sound) _ _ _ (c .find2 .ensures)
+there-one : (c : tie.After-find Inv-loop2 μ-loop2 Inv-loop μ-loop) → c .find .result .core < 16
+there-one c = core-there _ (good-one (c .before .before) .world-sound .is-sound) _ _ _ (c .find .ensures)
 
-card : (c : tie.After-find2 Inv-loop2 μ-loop2 Inv-loop μ-loop) → c .find2 .result .object < 64
-card c = object-there _ (good-one (c .before .before) .world-sound .is-sound) _ _ _ (c .find2 .ensures)
+card : (c : tie.After-find Inv-loop2 μ-loop2 Inv-loop μ-loop) → c .find .result .object < 64
+card c = object-there _ (good-one (c .before .before) .world-sound .is-sound) _ _ _ (c .find .ensures)
 
 -- the pending word of the core and the card found
-slot : (c : tie.After-find2 Inv-loop2 μ-loop2 Inv-loop μ-loop) → let m = head (c .before .before .before .before .before) .loop .machine in c .find2 .result .core * m .objects + c .find2 .result .object < 1024
+slot : (c : tie.After-find Inv-loop2 μ-loop2 Inv-loop μ-loop) → let m = head (c .before .before .before .before .before) .loop .machine in c .find .result .core * m .objects + c .find .result .object < 1024
 slot c =
     let m = head (c .before .before .before .before .before) .loop .machine in
-    omega (arith, to-slot m (good-one (c .before .before) .world-sound .is-sound) _ _ _ (c .find2 .ensures), own-words _ _ _ (head (c .before .before .before .before .before) .loop .inv .fit .holds))
+    omega (arith, to-slot m (good-one (c .before .before) .world-sound .is-sound) _ _ _ (c .find .ensures), own-words _ _ _ (head (c .before .before .before .before .before) .loop .inv .fit .holds))
 
 cast-at : tie.Need-cast-at Inv-loop2 μ-loop2 Inv-loop μ-loop
 cast-at c = record { fits = omega (arith, whole (good-one (c .before .before)) .rules .few-objects) }
@@ -376,29 +378,29 @@ mul-k-2 c = record { fits = omega (arith, there-one c) }
 element-copy-out-k-2 : tie.Need-element-copy-out-k-2 Inv-loop2 μ-loop2 Inv-loop μ-loop
 element-copy-out-k-2 c = there-one c
 
-mul-t105 : tie.Need-mul-t105 Inv-loop2 μ-loop2 Inv-loop μ-loop
-mul-t105 c = record { fits = omega (arith, card (c .before)) }
-
-slice-read-t111 : tie.Need-slice-read-t111 Inv-loop2 μ-loop2 Inv-loop μ-loop
-slice-read-t111 c = omega (arith, card (c .before .before), head (c .before .before .before .before .before .before .before) .loop .inv .fit .holds .committed-long)
-
 mul-t104 : tie.Need-mul-t104 Inv-loop2 μ-loop2 Inv-loop μ-loop
-mul-t104 c = record { fits = omega (arith, slot (c .before .before)) }
+mul-t104 c = record { fits = omega (arith, card (c .before)) }
 
-slice-read-t113 : tie.Need-slice-read-t113 Inv-loop2 μ-loop2 Inv-loop μ-loop
-slice-read-t113 c = omega (arith, slot (c .before .before .before), head (c .before .before .before .before .before .before .before .before) .loop .inv .fit .holds .pending-long)
+slice-read-t110 : tie.Need-slice-read-t110 Inv-loop2 μ-loop2 Inv-loop μ-loop
+slice-read-t110 c = omega (arith, card (c .before .before), head (c .before .before .before .before .before .before .before) .loop .inv .fit .holds .committed-long)
 
-mul-t114 : tie.Need-mul-t114 Inv-loop2 μ-loop2 Inv-loop μ-loop
-mul-t114 c = record { fits = omega (arith, card (c .before .before .before)) }
+mul-t103 : tie.Need-mul-t103 Inv-loop2 μ-loop2 Inv-loop μ-loop
+mul-t103 c = record { fits = omega (arith, slot (c .before .before)) }
 
-element-copy-out-t117 : tie.Need-element-copy-out-t117 Inv-loop2 μ-loop2 Inv-loop μ-loop
-element-copy-out-t117 c = card (c .before .before .before)
+slice-read-t112 : tie.Need-slice-read-t112 Inv-loop2 μ-loop2 Inv-loop μ-loop
+slice-read-t112 c = omega (arith, slot (c .before .before .before), head (c .before .before .before .before .before .before .before .before) .loop .inv .fit .holds .pending-long)
+
+mul-t113 : tie.Need-mul-t113 Inv-loop2 μ-loop2 Inv-loop μ-loop
+mul-t113 c = record { fits = omega (arith, card (c .before .before .before)) }
+
+element-copy-out-t116 : tie.Need-element-copy-out-t116 Inv-loop2 μ-loop2 Inv-loop μ-loop
+element-copy-out-t116 c = card (c .before .before .before)
 
 act-on-requires : tie.Need-act-on-requires Inv-loop2 μ-loop2 Inv-loop μ-loop
 act-on-requires c κs =
     let at = c .before .before .before .before in
     let g = good-one (at .before .before) in
-    to-fits _ (g .world-sound .is-sound) _ _ _ (at .find2 .ensures) _ refl (g .formed .tickets-fit)
+    to-fits _ (g .world-sound .is-sound) _ _ _ (at .find .ensures) _ refl (g .formed .tickets-fit)
 
 mul-after-2 : tie.Need-mul-after-2 Inv-loop2 μ-loop2 Inv-loop μ-loop
 mul-after-2 c = record { fits = omega (arith, there-one (c .before .before .before .before .before .before)) }
@@ -439,8 +441,8 @@ loop-again-5 c =
     line-done _ _ _ _ _ _ _ _ _ _ _ (head e .loop .inv) (e .before .before .before .before .before .loop-test .taken) (e .before .before .before .if1 .taken) (e .before .before .if2 .taken) (room e) _ (e .end-line .ensures) _ (c .before .before .before .before .before .before .before .before .before .before .before .before .before .asked5 .given .1) refl _ (e .before .before .if2 .taken) _ _ _ _
     (let at = c .before .before .before .before .before .before .before .before .before .before in
     let holds = head e .loop .inv .fit .holds in
-    one-done _ _ _ (good-one (at .before .before)) (holds .committed-long) (holds .pending-long) _ _ _ (at .find2 .result) (c .before .before .before .before .before .act-on .result)
-    (at .before .object-of .ensures) (at .find2 .ensures) (c .before .before .before .before .before .act-on .ensures))
+    one-done _ _ _ (good-one (at .before .before)) (holds .committed-long) (holds .pending-long) _ _ _ (at .find .result) (c .before .before .before .before .before .act-on .result)
+    (at .before .object-of .ensures) (at .find .ensures) (c .before .before .before .before .before .act-on .ensures))
     _ _ (put .ensures .0) (put .ensures .1) (put .kept .1 .1 .0)
 
 -- ---- any other byte, and the chunk's end
@@ -524,7 +526,7 @@ feed-spec =
     loop-less-3
     loop-again-3
     enum-known-asked-4
-    find-requires
+    find-core-requires
     mul-k
     element-copy-out-k
     ahead-of-requires
@@ -541,7 +543,7 @@ feed-spec =
     element-copy-out-other
     is-struck-requires
     abort-requires
-    mul-t94
+    mul-t93
     element-set-from-machine
     add-e
     loop2-less
@@ -555,18 +557,18 @@ feed-spec =
     loop-again-4
     enum-known-asked-5
     object-of-requires
-    find-requires-2
+    find-requires
     cast-at
     mul-at
     add-at
     mul-k-2
     element-copy-out-k-2
-    mul-t105
-    slice-read-t111
     mul-t104
-    slice-read-t113
-    mul-t114
-    element-copy-out-t117
+    slice-read-t110
+    mul-t103
+    slice-read-t112
+    mul-t113
+    element-copy-out-t116
     act-on-requires
     mul-after-2
     element-set-from-after-2

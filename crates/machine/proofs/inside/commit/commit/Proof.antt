@@ -1,33 +1,39 @@
 -- `machine::inside::commit::commit` meets its contract.
-use mathlib.Core.Path.{sym, subst}
+use mathlib.Core.Path.{_≡_, sym, subst}
 use Prim.Native.Nat.{_<_}
 use native.Mathlib.Omega.{arith}
 use Rattle.core.specs.declared.calls.Settled.{Settled}
+use Rattle.machine.specs.OneCore.{found}
 use Rattle.machine.proofs.Typed.{machine-formed}
-use Rattle.machine.proofs.CoreCalls.{to-core, core-there, few-words}
+use Rattle.machine.proofs.CoreCalls.{core-found, to-core, core-there, few-words, to-settles}
 use Rattle.machine.proofs.CommitLaws.{Ready, ready, row-within, by-commit-at}
 use borrow.Author.Needs.{needs}
 use Rattle.machine.proofs.inside.commit.commit.Statement.{statement}
 use Rattle.machine.proofs.inside.commit.commit.Tie as tie
 
-here : (c : tie.After-find) → c .find .result .core < c .before .before .before .args .t1 .cores
-here c = to-core _ (c .before .before .before .pre .is-sound) _ _ _ (c .find .ensures)
+-- where it found its core
+looked : (c : tie.After-find-core) → let start = c .before .before .before in
+    c .find-core .result ≡ found (start .args .core) 0 (start .args .t1 .cores) (start .args .t1 .objects)
+looked c = core-found _ (c .before .before .before .pre .is-sound) _ _ (c .find-core .ensures)
 
-there : (c : tie.After-find) → c .find .result .core < 16
-there c = core-there _ (c .before .before .before .pre .is-sound) _ _ _ (c .find .ensures)
+here : (c : tie.After-find-core) → c .find-core .result .core < c .before .before .before .args .t1 .cores
+here c = to-core _ (c .before .before .before .pre .is-sound) _ _ _ (looked c)
+
+there : (c : tie.After-find-core) → c .find-core .result .core < 16
+there c = core-there _ (c .before .before .before .pre .is-sound) _ _ _ (looked c)
 
 -- what the commit gives can be carried out
 able : (c : tie.After-settle) → let at = c .before .before .before in
-    Ready (at .before .before .before .args .t1) (at .before .before .before .pre .is-sound) (at .find .result .core) (c .settle .result)
+    Ready (at .before .before .before .args .t1) (at .before .before .before .pre .is-sound) (at .find-core .result .core) (c .settle .result)
 able c =
     let at = c .before .before .before in
     let start = at .before .before .before in
     let formed = machine-formed (start .args .t1) _ (start .good .0) in
-    subst (λ (r : Settled). Ready (start .args .t1) (start .pre .is-sound) (at .find .result .core) r) (sym (c .settle .ensures))
-    (ready (start .args .t1) (start .pre .is-sound) (at .find .result .core) _ _ (here at) (formed .core-long) (formed .tickets-fit))
+    subst (λ (r : Settled). Ready (start .args .t1) (start .pre .is-sound) (at .find-core .result .core) r) (sym (c .settle .ensures))
+    (ready (start .args .t1) (start .pre .is-sound) (at .find-core .result .core) _ _ (here at) (formed .core-long) (formed .tickets-fit))
 
-find-requires : tie.Need-find-requires
-find-requires c κs = search needs
+find-core-requires : tie.Need-find-core-requires
+find-core-requires c κs = search needs
 
 mul-k : tie.Need-mul-k
 mul-k c = record { fits = omega (arith, there c) }
@@ -39,7 +45,9 @@ ahead-of-requires : tie.Need-ahead-of-requires
 ahead-of-requires c κs = search needs
 
 settle-requires : tie.Need-settle-requires
-settle-requires c κs = search needs
+settle-requires c κs =
+    let at = c .before .before in
+    to-settles _ (at .before .before .before .pre .is-sound) _ _ _ (looked at)
 
 mul-after : tie.Need-mul-after
 mul-after c = record { fits = omega (arith, there (c .before .before .before .before)) }
@@ -57,7 +65,7 @@ mul-write-back : tie.Need-mul-write-back
 mul-write-back c =
     let at = c .before .before .before .before .before in
     let m = at .before .before .before .args .t1 in
-    record { fits = omega (arith, row-within (at .find .result .core) (m .cores) (m .objects) (here at), few-words m (at .before .before .before .pre .is-sound) _ _ _ (at .find .ensures)) }
+    record { fits = omega (arith, row-within (at .find-core .result .core) (m .cores) (m .objects) (here at), few-words m (at .before .before .before .pre .is-sound) _ _ _ (looked at)) }
 
 write-back-requires : tie.Need-write-back-requires
 write-back-requires c κs =
@@ -66,7 +74,7 @@ write-back-requires c κs =
     let start = at .before .before .before in
     let m = start .args .t1 in
     let fine = start .pre in (
-      omega (arith, row-within (at .find .result .core) (m .cores) (m .objects) (here at), fine .committed-long, fine .pending-long),
+      omega (arith, row-within (at .find-core .result .core) (m .cores) (m .objects) (here at), fine .committed-long, fine .pending-long),
       (
         machine-formed m _ (start .good .0) .versions-long,
         (
@@ -92,14 +100,14 @@ returns c =
     let at = done .before .before .before in
     let start = at .before .before .before in
     rw (c .strike .ensures, moved .0, moved .1)
-    (by-commit-at _ (start .pre) (machine-formed (start .args .t1) _ (start .good .0) .core-long) (start .args .core) (at .find .result) _ (done .settle .result)
-    (at .find .ensures) (done .before .ahead-of .ensures) (done .settle .ensures))
+    (by-commit-at _ (start .pre) (machine-formed (start .args .t1) _ (start .good .0) .core-long) (start .args .core) (at .find-core .result) _ (done .settle .result)
+    (looked at) (done .before .ahead-of .ensures) (done .settle .ensures))
 
 pub commit-spec : {M : Type 1} → statement M
 commit-spec =
     tie.close
     (tie.spec
-    find-requires
+    find-core-requires
     mul-k
     element-copy-out-k
     ahead-of-requires
