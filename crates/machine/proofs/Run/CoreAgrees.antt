@@ -142,8 +142,8 @@ wrote-any (x ∷ a) d p = go (stores x d) refl p (wrote-any a d)
 -- where the write set holds a card, the attempt has written something
 pub writes-something : (k : Core) (v : View) → CoreAgrees k v → onlyLooks k ≡ false → wroteNothing (v .tried) ≡ false
 unfolding wroteNothing
-writes-something k v a wrote =
-    let d = filled-one (k .writes) wrote in
+writes-something k v a filled =
+    let d = filled-one (k .writes) filled in
     ap not (wrote-any (v .tried) (d .0) (sym (a .same-writes (d .0)) ∙ d .2))
 
 -- a void attempt crosses nothing
