@@ -130,7 +130,7 @@ store-any (gives b) d p = p
 store-any other d p = p
 
 -- one that has written a card has written something
-wrote-any : (a : List Deed) (d : ℕ) → wrote a d ≡ true → any storesAny a ≡ true
+pub wrote-any : (a : List Deed) (d : ℕ) → wrote a d ≡ true → any storesAny a ≡ true
 unfolding wrote any
 wrote-any [] d p = p
 wrote-any (x ∷ a) d p = go (stores x d) refl p (wrote-any a d)
