@@ -87,6 +87,6 @@ unfolding serial version
 looker-leaves o h c n e d nothing = (
   ap (λ (q : Bool). not (eqb c e) && inProgress h e && q) (nothing-crossed (attempt h c) (attempt h e) nothing) ∙ and-false (not (eqb c e) && inProgress h e),
   ext-getD 0 (effect (attempt h c) (serial o h)) (serial o h) (effect-long (attempt h c) (serial o h))
-  (λ x l. effect-unwritten (attempt h c) (serial o h) x (nothing-written (attempt h c) x nothing)),
+      (λ x l. effect-unwritten (attempt h c) (serial o h) x (nothing-written (attempt h c) x nothing)),
   ap (λ (q : Bool). cond q 1 0 + version h d) (nothing-written (attempt h c) d nothing) ∙ zero-add (version h d),
 )
