@@ -41,9 +41,9 @@ extern "C" {
 
 /* The version of this header and its archive. The first number rises when a caller has to change something, the second when something
  * is added. */
-#define CARDS_VERSION_MAJOR 2
-#define CARDS_VERSION_MINOR 1
-#define CARDS_VERSION "2.1"
+#define CARDS_VERSION_MAJOR 3
+#define CARDS_VERSION_MINOR 0
+#define CARDS_VERSION "3.0"
 
 /* An output of so many bytes is always enough for a script of so many lines, whatever is in them: 18 bytes of heading, and 29 for each
  * line. That is proved. (The longest line that the test of host/ finds has 25, "1000000 value 4294967295\n".)
