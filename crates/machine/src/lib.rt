@@ -213,8 +213,9 @@ impl Machine {
     }
 
     // The transaction commits, with the count of setbacks, or waits, with the core of the smallest conflicting ticket, or is told that
-    // it was set back. 2 unsound record, 3 wrong table, 4 no such core, 9 none in progress. The pending table keeps every word; so does
-    // the committed one where the transaction does not commit; refused, the record comes back as given.
+    // it was set back; one that has written nothing does not wait. 2 unsound record, 3 wrong table, 4 no such core, 9 none in
+    // progress. The pending table keeps every word; so does the committed one where the transaction does not commit; refused, the
+    // record comes back as given.
     pub fn commit(self, core: u32, committed: &mut [u32], pending: &mut [u32]) -> Outcome
         ensures rule { λ r. ⌜ left r (now (committed .exit)) (now (pending .exit)) ≡ Rule.commit (lent self (now (committed .entry)) (now (pending .entry))) core ⌝ }
         ensures paper { λ r. ⌜ Numbered (lent self (now (committed .entry)) (now (pending .entry))) (Rule.Commit core) (r .answer) ⌝ }

@@ -99,7 +99,7 @@ fn strike(mut cores: [Core; CORES], ws: u64) -> [Core; CORES]
 
 // Commits the transaction of a core. It is refused where there is no such core (4) or no transaction (9). A marked
 // transaction is told that it was set back, and loses its mark and nothing more. One that conflicts with a smaller ticket
-// waits. Any other goes through. A refusal or a wait leaves the record and both tables as they are, and the
+// waits, unless it only looks. Any other goes through. A refusal or a wait leaves the record and both tables as they are, and the
 // pending table keeps every word.
 pub fn commit(mut m: Machine, core: u32, committed: &mut [u32], pending: &mut [u32]) -> Outcome
     requires { ⌜ SoundWorld (lent m (now committed) (now pending)) ⌝ }
