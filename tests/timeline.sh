@@ -104,10 +104,10 @@ any_order() {
     diff <(sed 's/"-* *[^"]*"/""/' examples/every-answer.timeline) -
 }
 
-# in_readme: README.md has the timeline of case A and shows its picture
+# in_readme: README.md has the timelines of case A and, from line 5 on, of the display, and shows the picture of case A
 in_readme() {
   awk '/^    line  core 0/ { on = 1 } !/^    / { on = 0 } on { sub(/^    /, ""); print }' README.md |
-    diff examples/case-a.timeline - && grep -q '](docs/case-a.svg)' README.md
+    diff <(cat examples/case-a.timeline && sed -n '1p;/^5 /,$p' examples/display.timeline) - && grep -q '](docs/case-a.svg)' README.md
 }
 
 for script in examples/*.script; do
