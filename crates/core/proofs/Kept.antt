@@ -8,9 +8,8 @@ use lib.Dec.{eqb}
 use lib.ListN.{getD, set, length, length-set}
 use lib.Seq.{getD-set-other}
 use borrow.Author.Tests.{eqb-true}
-use Rattle.objset.specs.Objset.{has, added}
-use Rattle.objset.proofs.Digits.{has-zero}
-use Rattle.objset.proofs.Laws.{both-left, has-added}
+use Rattle.objset.specs.Objset.{has, none, isEmpty, added}
+use Rattle.objset.proofs.Laws.{both-left, has-none, has-added, none-empty, none-fits, empty-none}
 use Rattle.core.specs.declared.Core.{Core}
 use Rattle.core.specs.declared.Job.{Job}
 use Rattle.core.specs.Parts.{noJob, jobAt, idle, running}
@@ -19,8 +18,8 @@ use Rattle.core.specs.Formed.{Formed-core}
 use Rattle.core.proofs.Tidy.{Clear, Tidy}
 use Rattle.core.proofs.Jobs.{least-listed, least-first, without-long, without-unused}
 
-none-within : (objects d : ℕ) → d < 64 → has 0 d ≡ true → d < objects
-none-within objects d l p = absurd (true≢false (sym p ∙ has-zero d))
+none-within : (objects d : ℕ) → d < 64 → has none d ≡ true → d < objects
+none-within objects d l p = absurd (true≢false (sym p ∙ has-none d))
 
 pub idle-tidy : (objects : ℕ) (jobs : List Job) (n : ℕ) → n ≤ 8 → ((p : ℕ) → p < 8 → n ≤ p → getD jobs p noJob ≡ noJob)
     → Tidy objects (idle jobs n)
@@ -29,7 +28,7 @@ idle-tidy objects jobs n few unused =
       reads-within = none-within objects;
       writes-within = none-within objects;
       owner-listed = λ a. absurd (true≢false (sym a));
-      idle-clear = λ a. record { no-reads = refl; no-writes = refl; no-mark = refl; no-owner = refl; no-ticket = refl; no-aborts = refl };
+      idle-clear = λ a. record { no-reads = none-empty; no-writes = none-empty; no-mark = refl; no-owner = refl; no-ticket = refl; no-aborts = refl };
       zombie-empty = λ z. absurd (true≢false (sym z));
       few-listed = few;
       unused-jobs = unused;
@@ -37,8 +36,8 @@ idle-tidy objects jobs n few unused =
     }
 
 -- a core without a transaction is its list of jobs
-pub idle-list : (k : Core) (jobs : List Job) (n : ℕ) → k .active ≡ false → Clear k → withList k jobs n ≡ idle jobs n
-idle-list k jobs n off clear =
+pub idle-list : (k : Core) (jobs : List Job) (n : ℕ) → Formed-core k → k .active ≡ false → Clear k → withList k jobs n ≡ idle jobs n
+idle-list k jobs n f off clear =
     λ i. record {
       jobs = jobs;
       count = n;
@@ -47,12 +46,12 @@ idle-list k jobs n off clear =
       ticket = clear .no-ticket i;
       aborts = clear .no-aborts i;
       zombie = clear .no-mark i;
-      reads = clear .no-reads i;
-      writes = clear .no-writes i;
+      reads = empty-none (k .reads) (f .reads-fit) (clear .no-reads) i;
+      writes = empty-none (k .writes) (f .writes-fit) (clear .no-writes) i;
     }
 
 pub idle-formed : (jobs : List Job) (n : ℕ) → length jobs ≡ 8 → Formed-core (idle jobs n)
-idle-formed jobs n long = record { jobs-long = long; reads-fit = omega arith; writes-fit = omega arith }
+idle-formed jobs n long = record { jobs-long = long; reads-fit = none-fits; writes-fit = none-fits }
 
 module _ (objects : ℕ) (k : Core) (s : Tidy objects k) (f : Formed-core k) where
   -- the new job joins the end of the list, after the owner, and moves no other
@@ -108,10 +107,10 @@ module _ (objects : ℕ) (k : Core) (s : Tidy objects k) (f : Formed-core k) whe
       }
 
   pub begun-formed : (t : ℕ) → Formed-core (withTransaction k t)
-  begun-formed t = record { jobs-long = f .jobs-long; reads-fit = omega arith; writes-fit = omega arith }
+  begun-formed t = record { jobs-long = f .jobs-long; reads-fit = none-fits; writes-fit = none-fits }
 
   -- a transaction in progress with another ticket, other setbacks, another mark and other sets; a marked one has empty sets
-  attempting-tidy : (t n : ℕ) (z : Bool) (rs ws : ℕ) → k .active ≡ true → (z ≡ true → (rs ≡ 0) × (ws ≡ 0))
+  attempting-tidy : (t n : ℕ) (z : Bool) (rs ws : ℕ) → k .active ≡ true → (z ≡ true → (isEmpty rs ≡ true) × (isEmpty ws ≡ true))
       → ((d : ℕ) → d < 64 → has rs d ≡ true → d < objects) → ((d : ℕ) → d < 64 → has ws d ≡ true → d < objects)
       → Tidy objects (attempting k t n z rs ws)
   attempting-tidy t n z rs ws on empty hr hw =
@@ -145,7 +144,7 @@ module _ (objects : ℕ) (k : Core) (s : Tidy objects k) (f : Formed-core k) whe
 
   pub aborted-tidy : k .active ≡ true → Tidy objects (aborted k)
   aborted-tidy on =
-      attempting-tidy _ _ _ (aborted k .reads) (aborted k .writes) on (λ z. (refl, refl)) (none-within objects) (none-within objects)
+      attempting-tidy _ _ _ (aborted k .reads) (aborted k .writes) on (λ z. (none-empty, none-empty)) (none-within objects) (none-within objects)
 
   pub finished-tidy : (p : ℕ) → p < k .count → Tidy objects (idle (without (k .jobs) p) (k .count - 1))
   finished-tidy p h =
@@ -195,4 +194,4 @@ struck-tidy objects ws k s f = struck-either (Tidy objects) ws k (λ e. aborted-
 
 pub struck-formed : (ws : ℕ) (k : Core) → Formed-core k → Formed-core (struckBy ws k)
 struck-formed ws k f =
-    struck-either Formed-core ws k (λ e. record { jobs-long = f .jobs-long; reads-fit = omega arith; writes-fit = omega arith }) f
+    struck-either Formed-core ws k (λ e. record { jobs-long = f .jobs-long; reads-fit = none-fits; writes-fit = none-fits }) f

@@ -6,20 +6,19 @@ use native.Mathlib.Omega.{arith}
 use lib.Dec.{eqb, leb, ltb}
 use borrow.Author.Tests.{ltb-true, leb-true, eqb-true, lt-ltb, le-leb, not-true}
 use Rattle.objset.specs.Objset.{has, each, below, isEmpty}
-use Rattle.objset.proofs.Digits.{has-zero}
-use Rattle.objset.proofs.Laws.{each-one, one-each, zero-empty}
+use Rattle.objset.proofs.Laws.{each-one, one-each, one-filled}
 use Rattle.core.specs.declared.Core.{Core}
 use Rattle.core.specs.declared.Job.{Job}
 use Rattle.core.specs.Parts.{noJob, jobAt}
-use Rattle.core.specs.Life.{onlyLooks}
+use Rattle.core.specs.Life.{isReadOnly}
 use Rattle.core.specs.Calls.{Settles}
 use Rattle.core.specs.Tidy.{_⇒_, setsWithinOn, ownerListedOn, emptySets, clear, idleClearOn, zombieEmptyOn, fewJobsOn, zeroJob, unusedJobsOn, ownerFirstOn, unused, tidy, blankOn}
 use Rattle.core.proofs.TestLaws.{same-test, if-true, true-if, both}
 
 -- empty sets, no mark, and owner's place, ticket and setbacks 0
 pub record Clear (k : Core) : Type 0 where
-  pub no-reads : k .reads ≡ 0
-  pub no-writes : k .writes ≡ 0
+  pub no-reads : isEmpty (k .reads) ≡ true
+  pub no-writes : isEmpty (k .writes) ≡ true
   pub no-mark : k .zombie ≡ false
   pub no-owner : k .owner ≡ 0
   pub no-ticket : k .ticket ≡ 0
@@ -31,7 +30,7 @@ pub record Tidy (objects : ℕ) (k : Core) : Type 0 where
   pub writes-within : (d : ℕ) → d < 64 → has (k .writes) d ≡ true → d < objects
   pub owner-listed : k .active ≡ true → k .owner < k .count
   pub idle-clear : k .active ≡ false → Clear k
-  pub zombie-empty : k .zombie ≡ true → (k .reads ≡ 0) × (k .writes ≡ 0)
+  pub zombie-empty : k .zombie ≡ true → (isEmpty (k .reads) ≡ true) × (isEmpty (k .writes) ≡ true)
   pub few-listed : k .count ≤ 8
   pub unused-jobs : (p : ℕ) → p < 8 → k .count ≤ p → jobAt k p ≡ noJob
   pub owner-first : k .active ≡ true → (p : ℕ) → p < k .owner → jobAt k (k .owner) .deadline < jobAt k p .deadline
@@ -53,10 +52,8 @@ zero-job j e =
     let d = eqb-true (j .deadline) 0 (p .1) in
     λ i. record { number = n i; deadline = d i }
 
-empty-sets : (k : Core) → emptySets k ≡ true → (k .reads ≡ 0) × (k .writes ≡ 0)
-empty-sets k e =
-    let p = both (eqb (k .reads) 0) (eqb (k .writes) 0) e in
-    (eqb-true (k .reads) 0 (p .0), eqb-true (k .writes) 0 (p .1))
+empty-sets : (k : Core) → emptySets k ≡ true → (isEmpty (k .reads) ≡ true) × (isEmpty (k .writes) ≡ true)
+empty-sets k = both (isEmpty (k .reads)) (isEmpty (k .writes))
 
 is-clear : (k : Core) → (emptySets k && not (k .zombie) && eqb (k .owner) 0 && eqb (k .ticket) 0 && eqb (k .aborts) 0) ≡ true → Clear k
 is-clear k e =
@@ -173,12 +170,12 @@ blank-tidy objects k = same-test (blankOn k) (tidy objects k && unused k) to fro
     to : blankOn k ≡ true → (tidy objects k && unused k) ≡ true
     to e =
         let b = blank-core k e in
-        let no-object : (s d : ℕ) → s ≡ 0 → has s d ≡ true → d < objects =
-        λ s d z h. absurd (true≢false (sym h ∙ ap (λ (x : ℕ). has x d) z ∙ has-zero d)) in
+        let no-object : (s d : ℕ) → isEmpty s ≡ true → d < 64 → has s d ≡ true → d < objects =
+        λ s d e l h. absurd (true≢false (sym e ∙ one-filled s d l h)) in
         let t : Tidy objects k =
         record {
-          reads-within = λ d l. no-object (k .reads) d (b .cleared .no-reads);
-          writes-within = λ d l. no-object (k .writes) d (b .cleared .no-writes);
+          reads-within = λ d l. no-object (k .reads) d (b .cleared .no-reads) l;
+          writes-within = λ d l. no-object (k .writes) d (b .cleared .no-writes) l;
           owner-listed = λ on. absurd (true≢false (sym on ∙ b .no-transaction));
           idle-clear = λ off. b .cleared;
           zombie-empty = λ z. (b .cleared .no-reads, b .cleared .no-writes);
@@ -220,12 +217,12 @@ blank-tidy objects k = same-test (blankOn k) (tidy objects k && unused k) to fro
 pub tidy-settles : (objects : ℕ) (k : Core) → Tidy objects k → Settles k
 tidy-settles objects k t =
     record {
-      written-active = λ wrote. go (k .active) refl (λ off. looks (t .idle-clear off .no-writes) wrote);
-      written-unmarked = λ wrote. mark (k .zombie) refl (λ on. looks (t .zombie-empty on .1) wrote);
+      written-active = λ wrote. go (k .active) refl (λ off. unwritten (t .idle-clear off .no-writes) wrote);
+      written-unmarked = λ wrote. mark (k .zombie) refl (λ on. unwritten (t .zombie-empty on .1) wrote);
     }
   where
-    looks : k .writes ≡ 0 → onlyLooks k ≡ false → ⊥
-    looks none wrote = true≢false (sym (ap isEmpty none ∙ zero-empty) ∙ wrote)
+    unwritten : isEmpty (k .writes) ≡ true → isReadOnly k ≡ false → ⊥
+    unwritten none wrote = true≢false (sym none ∙ wrote)
 
     go : (a : Bool) → k .active ≡ a → (k .active ≡ false → ⊥) → k .active ≡ true
     go true on h = on

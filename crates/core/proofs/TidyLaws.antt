@@ -5,12 +5,12 @@ use mathlib.Core.List.{List}
 use Prim.Native.Nat.{ℕ, _+_, _*_, _^_, _≤_, _<_}
 use native.Mathlib.Omega.{arith}
 use native.Mathlib.Numerals.{add-one}
+use lib.Bits.{bitOr, or-zero-l, or-add-and, and-le-r}
 use lib.Dec.{eqb, leb, ltb}
 use lib.ListN.{getD}
-use borrow.Author.Tests.{ltb-true, leb-true, eqb-true, lt-ltb, le-ltb, le-leb, eq-eqb}
-use Rattle.objset.specs.Objset.{has, collect, each, joined, below}
-use Rattle.objset.proofs.Digits.{has-zero}
-use Rattle.objset.proofs.Laws.{both-left, both-right, one-each, same-members, has-joined, joined-fits, below-member, member-below}
+use borrow.Author.Tests.{ltb-true, leb-true, eqb-true, eqb-false, lt-ltb, le-ltb, le-leb, eq-eqb, ne-eqb}
+use Rattle.objset.specs.Objset.{has, each, joined, below}
+use Rattle.objset.proofs.Laws.{both-left, both-right, one-each, has-joined, joined-fits, below-member, member-below}
 use Rattle.core.specs.declared.Core.{Core}
 use Rattle.core.specs.declared.Job.{Job}
 use Rattle.core.specs.Parts.{noJob}
@@ -27,10 +27,6 @@ or-right : (a b : Bool) → b ≡ true → (a || b) ≡ true
 or-right true b e = refl
 or-right false b e = e
 
-empty-joined : eqb (joined 0 0) 0 ≡ true
-unfolding joined collect has
-empty-joined = refl
-
 module _ (a b : ℕ) (ha : a < 2 ^ 64) (hb : b < 2 ^ 64) where
   pub joined-below : (n : ℕ) → below (joined a b) n ≡ (below a n && below b n)
   joined-below n = same-test _ _ to from
@@ -46,25 +42,6 @@ module _ (a b : ℕ) (ha : a < 2 ^ 64) (hb : b < 2 ^ 64) where
           go : (d : ℕ) (q : Bool) → has a d ≡ q → (q || has b d) ≡ true → d < n
           go d true t h = below-member a n d ha (both-left (below a n) (below b n) e) t
           go d false t h = below-member b n d hb (both-right (below a n) (below b n) e) h
-
-  pub joined-zero : eqb (joined a b) 0 ≡ (eqb a 0 && eqb b 0)
-  joined-zero = same-test _ _ to from
-    where
-      none-in : (s : ℕ) → s < 2 ^ 64 → ((d : ℕ) → has s d ≡ true → has (joined a b) d ≡ true) → joined a b ≡ 0 → s ≡ 0
-      none-in s l h z = same-members s 0 l (omega arith) (λ d m. go d (has s d) refl)
-        where
-          go : (d : ℕ) (q : Bool) → has s d ≡ q → q ≡ has 0 d
-          go d true t = sym (h d t) ∙ ap (λ (x : ℕ). has x d) z
-          go d false t = sym (has-zero d)
-
-      to : eqb (joined a b) 0 ≡ true → (eqb a 0 && eqb b 0) ≡ true
-      to e =
-          let z = eqb-true (joined a b) 0 e in
-          ap₂ _&&_ (eq-eqb a 0 (none-in a ha (λ d p. has-joined a b d ha hb ∙ or-left (has a d) (has b d) p) z))
-          (eq-eqb b 0 (none-in b hb (λ d p. has-joined a b d ha hb ∙ or-right (has a d) (has b d) p) z))
-
-      from : (eqb a 0 && eqb b 0) ≡ true → eqb (joined a b) 0 ≡ true
-      from e = rw (eqb-true a 0 (both-left (eqb a 0) (eqb b 0) e), eqb-true b 0 (both-right (eqb a 0) (eqb b 0) e)) empty-joined
 
 -- ---- one core
 
@@ -145,11 +122,15 @@ job-zero n d = same-test _ _ to from
     from : (eqb n 0 && eqb d 0) ≡ true → eqb (n + d * 4294967296) 0 ≡ true
     from e = rw (eqb-true n 0 (both-left (eqb n 0) (eqb d 0) e), eqb-true d 0 (both-right (eqb n 0) (eqb d 0) e))
 
--- one more job is looked at
-pub each-next : (n : ℕ) (f : ℕ → Bool) (a : Bool) → (f n && (each n f && a)) ≡ (each (n + 1) f && a)
-unfolding each
-each-next n f a = go (f n) ∙ ap (λ (x : ℕ). each x f && a) (sym (add-one n))
+-- two numbers joined digit by digit are 0 if and only if both are
+pub or-zero : (a b : ℕ) → eqb (bitOr a b) 0 ≡ (eqb a 0 && eqb b 0)
+or-zero a b = go (eqb a 0) refl (eqb b 0) refl
   where
-    go : (b : Bool) → (b && (each n f && a)) ≡ (b && each n f && a)
-    go true = refl
-    go false = refl
+    go : (p : Bool) → eqb a 0 ≡ p → (q : Bool) → eqb b 0 ≡ q → eqb (bitOr a b) 0 ≡ (p && q)
+    go true s q t = ap (λ (x : ℕ). eqb (bitOr x b) 0) (eqb-true a 0 s) ∙ ap (λ (x : ℕ). eqb x 0) (or-zero-l b) ∙ t
+    go false s q t = ne-eqb (bitOr a b) 0 (λ z. eqb-false a 0 s (omega (arith, z, or-add-and a b, and-le-r a b)))
+
+-- one more job is looked at
+pub each-next : (n : ℕ) (f : ℕ → Bool) → (f n && each n f) ≡ each (n + 1) f
+unfolding each
+each-next n f = ap (λ (x : ℕ). each x f) (sym (add-one n))

@@ -4,7 +4,7 @@ use mathlib.Core.Bool.{Bool, true, false, cond, not}
 use mathlib.Core.List.{List, [], _∷_}
 use Prim.Native.Nat.{ℕ, zero, suc, _+_, _≤_, _<_}
 use lib.Dec.{eqb, leb, ltb}
-use Rattle.objset.specs.Objset.{has}
+use Rattle.objset.specs.Objset.{has, none}
 use Rattle.core.specs.declared.Core.{Core}
 use Rattle.core.specs.declared.Job.{Job}
 use Rattle.core.specs.declared.Answer.{Answer}
@@ -15,7 +15,7 @@ use Rattle.core.specs.declared.calls.Seen.{Seen}
 use Rattle.core.specs.declared.calls.Acted.{Acted}
 use Rattle.core.specs.declared.calls.Settled.{Settled}
 use Rattle.core.specs.Parts.{mostCores, mostJobs, jobAt, running}
-use Rattle.core.specs.Life.{withJob, withoutJob, withTransaction, unmarked, withRead, withWrite, over, onlyLooks}
+use Rattle.core.specs.Life.{withJob, withoutJob, withTransaction, unmarked, withRead, withWrite, over, isReadOnly}
 
 -- the first condition that holds, by its number; 0 where none does
 unfoldable pub first : List (Bool × ℕ) → ℕ
@@ -141,7 +141,7 @@ pub record Fits (k : Core) (s : Seen) : Type 0 where
 
 -- it does not go through: the write set that it commits is empty
 abbrev pub stays : Core → Answer → Settled
-stays k a = record { core = k; writes = 0; commits = 0; answer = a }
+stays k a = record { core = k; writes = none; commits = 0; answer = a }
 
 -- it goes through: the transaction is over and its write set is committed
 abbrev pub passes : Core → Settled
@@ -149,8 +149,8 @@ passes k = record { core = over k; writes = k .writes; commits = 1; answer = Com
 
 -- what a sound record gives of its core: where a transaction has written, it is in progress and not marked
 pub record Settles (k : Core) : Type 0 where
-  pub written-active : onlyLooks k ≡ false → k .active ≡ true
-  pub written-unmarked : onlyLooks k ≡ false → k .zombie ≡ false
+  pub written-active : isReadOnly k ≡ false → k .active ≡ true
+  pub written-unmarked : isReadOnly k ≡ false → k .zombie ≡ false
 
 -- 9 where none is in progress
 unfoldable pub commitOn : ℕ → Core → ℕ → Settled

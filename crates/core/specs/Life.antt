@@ -5,7 +5,7 @@ use mathlib.Core.List.{List, [], _∷_, _++_}
 use Prim.Native.Nat.{ℕ, suc, _+_, _-_}
 use lib.Dec.{ltb}
 use lib.ListN.{set, take, drop}
-use Rattle.objset.specs.Objset.{isEmpty, added, meeting}
+use Rattle.objset.specs.Objset.{none, isEmpty, added, meeting}
 use Rattle.core.specs.declared.Core.{Core}
 use Rattle.core.specs.declared.Job.{Job}
 use Rattle.core.specs.Parts.{noJob, idle, dataSet, running}
@@ -44,7 +44,7 @@ withoutJob k p = withList k (without (k .jobs) p) (k .count - 1)
 -- the running job's transaction begins with the ticket t: its sets are empty, its setbacks 0
 abbrev pub withTransaction : Core → ℕ → Core
 withTransaction k t =
-    record { jobs = k .jobs; count = k .count; active = true; owner = running k; ticket = t; aborts = 0; zombie = false; reads = 0; writes = 0 }
+    record { jobs = k .jobs; count = k .count; active = true; owner = running k; ticket = t; aborts = 0; zombie = false; reads = none; writes = none }
 
 -- a core whose transaction has this ticket, these setbacks, this mark and these sets; its job stays
 abbrev pub attempting : Core → ℕ → ℕ → Bool → ℕ → ℕ → Core
@@ -78,7 +78,7 @@ withWrite k d = withSets k (k .reads) (added (k .writes) d)
 
 -- set back: the sets are emptied, the setbacks rise by one, it is marked; it keeps its ticket
 abbrev pub aborted : Core → Core
-aborted k = attempting k (k .ticket) (k .aborts + 1) true 0 0
+aborted k = attempting k (k .ticket) (k .aborts + 1) true none none
 
 -- core k has a transaction whose data set meets the write set ws
 abbrev pub isStruck : ℕ → Core → Bool
@@ -92,9 +92,9 @@ struckBy ws k = cond (isStruck ws k) (aborted k) k
 abbrev pub over : Core → Core
 over k = idle (k .jobs) (k .count)
 
--- it only looks: the write set of its present attempt is empty (document 02, paper 4)
-abbrev pub onlyLooks : Core → Bool
-onlyLooks k = isEmpty (k .writes)
+-- it is read-only (document 02, paper 4: it only looks): the write set of its present attempt is empty
+abbrev pub isReadOnly : Core → Bool
+isReadOnly k = isEmpty (k .writes)
 
 -- ---- two transactions
 

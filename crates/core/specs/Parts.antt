@@ -4,7 +4,7 @@ use mathlib.Core.List.{List, []}
 use Prim.Native.Nat.{ℕ, zero, suc}
 use lib.Dec.{ltb}
 use lib.ListN.{getD, replicate}
-use Rattle.objset.specs.Objset.{joined}
+use Rattle.objset.specs.Objset.{none, joined}
 use Rattle.core.specs.declared.Core.{Core}
 use Rattle.core.specs.declared.Job.{Job}
 
@@ -19,7 +19,7 @@ mostJobs = 8
 abbrev pub noJob : Job
 noJob = record { number = 0; deadline = 0 }
 
--- what is read past the end of a list of cores, which no call does
+-- what is read past the end of a list of cores, which no call does: zeros, as for every type
 abbrev pub noCore : Core
 noCore = record { jobs = []; count = 0; active = false; owner = 0; ticket = 0; aborts = 0; zombie = false; reads = 0; writes = 0 }
 
@@ -28,7 +28,7 @@ jobAt k p = getD (k .jobs) p noJob
 
 -- a core with these jobs and no transaction: empty sets, no mark, owner's place, ticket and setbacks 0
 abbrev pub idle : List Job → ℕ → Core
-idle jobs n = record { jobs = jobs; count = n; active = false; owner = 0; ticket = 0; aborts = 0; zombie = false; reads = 0; writes = 0 }
+idle jobs n = record { jobs = jobs; count = n; active = false; owner = 0; ticket = 0; aborts = 0; zombie = false; reads = none; writes = none }
 
 -- a core with no job and no transaction
 abbrev pub blankCore : Core

@@ -2,7 +2,7 @@
 use mathlib.Core.Bool.{Bool, not, _&&_, _||_}
 use Prim.Native.Nat.{ℕ}
 use lib.Dec.{eqb, leb, ltb}
-use Rattle.objset.specs.Objset.{each, below}
+use Rattle.objset.specs.Objset.{each, below, isEmpty}
 use Rattle.core.specs.declared.Core.{Core}
 use Rattle.core.specs.declared.Job.{Job}
 use Rattle.core.specs.Parts.{mostJobs, jobAt}
@@ -21,7 +21,7 @@ ownerListedOn k = k .active ⇒ ltb (k .owner) (k .count)
 
 -- the sets are empty
 abbrev pub emptySets : Core → Bool
-emptySets k = eqb (k .reads) 0 && eqb (k .writes) 0
+emptySets k = isEmpty (k .reads) && isEmpty (k .writes)
 
 -- empty sets, no mark, and owner's place, ticket and setbacks 0
 abbrev pub clear : Core → Bool

@@ -23,7 +23,7 @@ fn sets_within(k: Core, objects: u8) -> bool
 fn sets_empty(k: Core) -> bool
     ensures { λ r. ⌜ r ≡ emptySets k ⌝ }
 {
-    objset::union(k.reads, k.writes) == 0
+    objset::is_empty(objset::union(k.reads, k.writes))
 }
 
 // Whether the core has empty sets, no mark, and owner's place, ticket and aborts (document 01: setbacks) 0.
@@ -127,11 +127,11 @@ pub fn is_blank(k: Core) -> bool
     ensures { λ r. ⌜ r ≡ blankOn k ⌝ }
 {
     let jobs = k.jobs;
-    let mut all = objset::union(k.reads, k.writes);
+    let mut all: u64 = 0;
     let mut p: usize = 0;
     while p < JOBS {
         let j = jobs[p];
-        all = objset::union(j.number as u64 + j.deadline as u64 * 4294967296, all);
+        all = (j.number as u64 + j.deadline as u64 * 4294967296) | all;
         p += 1;
     }
     if k.active {
@@ -152,5 +152,8 @@ pub fn is_blank(k: Core) -> bool
     if k.aborts != 0 {
         return false;
     }
-    all == 0
+    if all != 0 {
+        return false;
+    }
+    sets_empty(k)
 }

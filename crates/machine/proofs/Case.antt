@@ -21,7 +21,7 @@ use Rattle.machine.specs.Answers.{kind}
 use Rattle.machine.specs.Follows.{Follows}
 use Rattle.machine.specs.Rule.{World, Result, lent, withMachine, unless, unlessLent, outOfRange, misfit, newWorld, setup, unsound, wrongTables, noSuchCore, noSuchObject, fullList, jobless, ticketsSpent, released, release, begun, begin, setBackTold, accessRefusal, valued, read, written, write, contender, blocked, mustWait, firstAhead, through, waiting, commitRefusal, commit, ended, giveUp, finished, finish, rule, Call, Release, Begin, Read, Write, Commit, GiveUp, Finish}
 use Rattle.core.specs.Calls.{first}
-use Rattle.core.specs.Life.{onlyLooks, conflicting, isStruck}
+use Rattle.core.specs.Life.{isReadOnly, conflicting, isStruck}
 use Rattle.machine.proofs.Refusals.{passed}
 use Rattle.machine.proofs.Least.{Least, least}
 
@@ -80,7 +80,7 @@ not-ahead m c e free l hit = go (ltb (coreAt m e .ticket) (coreAt m c .ticket)) 
     clash : conflicting (coreAt m c) (coreAt m e) ≡ true
     clash = struck-conflicts (coreAt m c) (coreAt m e) hit
 
-    has-written : onlyLooks (coreAt m c) ≡ false
+    has-written : isReadOnly (coreAt m c) ≡ false
     has-written =
         let d = meeting-one (coreAt m c .writes) (dataSet (coreAt m e)) (both-right (coreAt m e .active) _ hit) in
         one-filled (coreAt m c .writes) (d .0) (d .1) (d .2)
@@ -101,7 +101,7 @@ pub data Case (w : World) : Call → Answer → World → Type 0 where
       → Case w (Read c d) (valued w c d .answer) (valued w c d .world)
   is-written : {c d v : ℕ} → Lent-ok w c → d < w .machine .objects → coreAt (w .machine) c .zombie ≡ false
       → Case w (Write c d v) Written (written w c d v .world)
-  is-waiting : {c e : ℕ} → Lent-ok w c → coreAt (w .machine) c .zombie ≡ false → onlyLooks (coreAt (w .machine) c) ≡ false
+  is-waiting : {c e : ℕ} → Lent-ok w c → coreAt (w .machine) c .zombie ≡ false → isReadOnly (coreAt (w .machine) c) ≡ false
       → First (w .machine) c e → Case w (Commit c) (Waits e) w
   is-through : {c : ℕ} → Lent-ok w c → coreAt (w .machine) c .zombie ≡ false → mustWait (w .machine) c ≡ false
       → Case w (Commit c) (through w c .answer) (through w c .world)
@@ -274,8 +274,8 @@ commit-case w c = go (commitRefusal w c) refl (coreAt m c .zombie) refl (mustWai
         → Case w (Commit c) (done r z b .answer) (done r z b .world)
     go zero t true z b u = unfold unlessLent setBackTold in is-told asks-commit (commit-ok w c t) z
     go zero t false z true u =
-        let wrote = not-true (onlyLooks (coreAt m c)) (both-left (not (onlyLooks (coreAt m c))) (blocked m c) u) in
-        unfold unlessLent in is-waiting (commit-ok w c t) z wrote (first-ahead m c (both-right (not (onlyLooks (coreAt m c))) (blocked m c) u))
+        let wrote = not-true (isReadOnly (coreAt m c)) (both-left (not (isReadOnly (coreAt m c))) (blocked m c) u) in
+        unfold unlessLent in is-waiting (commit-ok w c t) z wrote (first-ahead m c (both-right (not (isReadOnly (coreAt m c))) (blocked m c) u))
     go zero t false z false u = unfold unlessLent in is-through (commit-ok w c t) z u
     go (suc n) t z y b u = unfold unlessLent in is-refused
 

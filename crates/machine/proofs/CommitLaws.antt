@@ -1,4 +1,4 @@
--- The laws of commit, over plain variables: where its loop over the objects stands, and what it gives.
+-- The laws of commit, over plain variables: what it may ask of a sound record, and what it gives.
 use mathlib.Core.Path.{_≡_, refl, sym, ap, ap₂, subst, _∙_}
 use mathlib.Core.Bool.{Bool, true, false, cond, not, _&&_, true≢false}
 use mathlib.Core.List.{List}
@@ -9,15 +9,14 @@ use lib.Dec.{ltb}
 use lib.ListN.{length, getD, set}
 use lib.Seq.{set-getD}
 use borrow.Author.Tests.{ltb-true, ltb-false, lt-ltb, eq-eqb}
-use Rattle.objset.specs.Objset.{has}
-use Rattle.objset.proofs.Digits.{has-zero}
-use Rattle.objset.proofs.Laws.{both-right}
+use Rattle.objset.specs.Objset.{has, none}
+use Rattle.objset.proofs.Laws.{both-right, has-none, none-empty}
 use Rattle.core.specs.declared.Core.{Core}
 use Rattle.core.specs.declared.Answer.{Answer}
 use Rattle.core.specs.declared.Answer.the-variants.{Refused, Waits, SetBack}
 use Rattle.core.specs.declared.calls.Settled.{Settled}
 use Rattle.core.specs.Parts.{noCore}
-use Rattle.core.specs.Life.{unmarked, over, onlyLooks}
+use Rattle.core.specs.Life.{unmarked, over, isReadOnly}
 use Rattle.core.specs.Calls.{stays, passes, commitOn}
 use Rattle.core.proofs.CallLaws.{skips, hits, none-holds, settled-either}
 use Rattle.machine.specs.declared.Machine.{Machine}
@@ -25,49 +24,13 @@ use Rattle.machine.specs.declared.inside.calls.Found.{Found}
 use Rattle.machine.specs.Record.{coreAt, putCore}
 use Rattle.machine.specs.Sound.{sound}
 use Rattle.machine.specs.Inside.{SoundWorld}
-use Rattle.machine.specs.Rule.{World, Result, withMachine, unlessLent, wrongTables, setBackTold, contender, blocked, mustWait, firstAhead, changed, moved, through, waiting, commitRefusal, commit}
+use Rattle.machine.specs.Rule.{World, Result, withMachine, unlessLent, wrongTables, setBackTold, contender, blocked, mustWait, firstAhead, moved, through, waiting, commitRefusal, commit}
 use Rattle.machine.specs.OneCore.{found, firstHolding, carriedOut}
-use Rattle.machine.proofs.Entries.{put-each, changed-at, changed-long}
+use Rattle.machine.proofs.Entries.{put-each}
 use Rattle.machine.proofs.Facts.{stands, core-place, one-open}
 use Rattle.machine.proofs.CallLaws.{is-sound, a-core, no-core, refused-lent, accepted-lent}
 use Rattle.machine.proofs.CoreLists.{strikes-none, changed-none, strikes-cleared}
 use Rattle.machine.proofs.Least.{least}
-use Rattle.machine.proofs.Front.{Stands, stands-next, stands-stored, stands-kept, stands-past, stands-all}
-
--- ---- the loops over the objects of the write set
-
-module _ (ws : ℕ) (f : ℕ → ℕ → ℕ) (old : List ℕ) where
-  module _ (d : ℕ) (now : List ℕ) (at : Stands d (changed ws f 0 old) old now) where
-    -- the entry whose turn it is is as it was
-    pub changed-next : d < length old → getD now d 0 ≡ getD old d 0
-    changed-next l = stands-next (changed ws f 0 old) old (changed-long ws f 0 old) d now 0 at l
-
-    pub changed-stored : (next : List ℕ) → d < length old → has ws d ≡ true → next ≡ set now d (f d (getD now d 0))
-        → Stands (d + 1) (changed ws f 0 old) old next
-    changed-stored next l p =
-        stands-stored (changed ws f 0 old) old (changed-long ws f 0 old) d now next 0 _ at l
-        (ap (f d) (changed-next l) ∙ sym (changed-at ws f old d l ∙ rw p refl))
-
-    -- an object that is not in the set, also one past the list
-    pub changed-kept : (next : List ℕ) → has ws d ≡ false → next ≡ now → Stands (d + 1) (changed ws f 0 old) old next
-    changed-kept next p e = go (ltb d (length old)) refl
-      where
-        go : (q : Bool) → ltb d (length old) ≡ q → Stands (d + 1) (changed ws f 0 old) old next
-        go true t =
-            let l = ltb-true d (length old) t in
-            stands-kept (changed ws f 0 old) old (changed-long ws f 0 old) d now next 0 at l (sym (changed-at ws f old d l ∙ rw p refl)) e
-        go false t = stands-past (changed ws f 0 old) old (changed-long ws f 0 old) d now next at (ltb-false d (length old) t) e
-
-  -- the write set lies within the first n objects
-  pub changed-done : (n : ℕ) (now : List ℕ) → Stands n (changed ws f 0 old) old now
-      → ((d : ℕ) → d < length old → has ws d ≡ true → d < n) → now ≡ changed ws f 0 old
-  changed-done n now at h =
-      stands-all (changed ws f 0 old) old (changed-long ws f 0 old) n now 0 at
-      (λ d l p. sym (changed-at ws f old d l ∙ rw (outside d l p (has ws d) refl) refl))
-    where
-      outside : (d : ℕ) → d < length old → n ≤ d → (q : Bool) → has ws d ≡ q → has ws d ≡ false
-      outside d l p true e = absurd (omega (arith, h d l e))
-      outside d l p false e = e
 
 -- ---- what a sound record tells the functions that a commit calls
 
@@ -109,10 +72,10 @@ module _ (m : Machine) (s : sound m ≡ true) where
       kept : (x : Core) → x .aborts < 255 → (e : ℕ) → e < 16 → getD (set (m .core) c x) e noCore .aborts < 255
       kept x few = put-each (λ e y. y .aborts < 255) (m .core) 16 c x (omega (arith, long, place)) few few-aborts
 
-      nothing : (r : Settled) → r .writes ≡ 0 → (d : ℕ) → has (r .writes) d ≡ true → ⊥
-      nothing r w d p = true≢false (sym p ∙ ap (λ (x : ℕ). has x d) w ∙ has-zero d)
+      nothing : (r : Settled) → r .writes ≡ none → (d : ℕ) → has (r .writes) d ≡ true → ⊥
+      nothing r w d p = true≢false (sym p ∙ ap (λ (x : ℕ). has x d) w ∙ has-none d)
 
-      idly : (r : Settled) → r .writes ≡ 0 → r .commits ≡ 0 → ((e : ℕ) → e < 16 → getD (set (m .core) c (r .core)) e noCore .aborts < 255) → Ready c r
+      idly : (r : Settled) → r .writes ≡ none → r .commits ≡ 0 → ((e : ℕ) → e < 16 → getD (set (m .core) c (r .core)) e noCore .aborts < 255) → Ready c r
       idly r w n few =
           record {
             within = λ d l p. absurd (nothing r w d p);
@@ -178,7 +141,7 @@ module _ (w : World) where
   settle-stays : (c : ℕ) (k : Core) (a : Answer) → carriedOut w c (stays k a) ≡ record { answer = a; world = withMachine w (putCore m c k) }
   settle-stays c k a =
       rw (
-        strikes-none (set (m .core) c k),
+        strikes-none none (set (m .core) c k) none-empty,
         changed-none (λ d v. v + 1) 0 (m .versions),
         changed-none (moved w c) 0 (w .committed),
         no-more (m .commits),
@@ -215,7 +178,7 @@ module _ (w : World) where
 
       first-place : mustWait m c ≡ true → firstAhead m c < 16
       unfolding blocked
-      first-place t = least (λ e. coreAt m e .ticket) (contender m c) 16 (both-right (not (onlyLooks (coreAt m c))) (blocked m c) t) .below
+      first-place t = least (λ e. coreAt m e .ticket) (contender m c) 16 (both-right (not (isReadOnly (coreAt m c))) (blocked m c) t) .below
 
       on-core : (a z b : Bool) → coreAt m c .active ≡ a → coreAt m c .zombie ≡ z → mustWait m c ≡ b
           → carriedOut w c

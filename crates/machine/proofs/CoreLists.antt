@@ -4,12 +4,10 @@ use mathlib.Core.Bool.{Bool, true, false, cond, _&&_, and-false}
 use mathlib.Core.List.{List, [], _∷_}
 use Prim.Native.Nat.{ℕ, zero, suc, _+_, _≤_, _<_}
 use native.Mathlib.Omega.{arith}
-use lib.Dec.{eqb}
 use lib.ListN.{getD, set, length}
-use borrow.Author.Tests.{eqb-true, eq-eqb, ne-eqb}
-use Rattle.objset.specs.Objset.{has, meeting}
-use Rattle.objset.proofs.Digits.{has-zero}
-use Rattle.objset.proofs.Laws.{none-zero, none-meeting}
+use borrow.Author.Tests.{eq-eqb, ne-eqb}
+use Rattle.objset.specs.Objset.{has, none, isEmpty, meeting}
+use Rattle.objset.proofs.Laws.{has-none, empty-meeting}
 use Rattle.core.specs.declared.Core.{Core}
 use Rattle.core.specs.Parts.{noCore, dataSet}
 use Rattle.core.specs.Life.{isStruck, aborted, struckBy, over}
@@ -32,19 +30,18 @@ strikes-at ws (k ∷ ks) zero l = refl
 strikes-at ws (k ∷ ks) (suc e) l = strikes-at ws ks e (omega arith)
 
 -- the empty write set strikes nobody and changes nothing
-nobody-struck : (k : Core) → k ≡ struckBy 0 k
-nobody-struck k =
-    struck-missed 0 k (ap (λ (b : Bool). k .active && b) (ap (λ (s : ℕ). meeting s (dataSet k)) (sym none-zero) ∙ none-meeting (dataSet k)) ∙ and-false (k .active))
+nobody-struck : (ws : ℕ) (k : Core) → isEmpty ws ≡ true → k ≡ struckBy ws k
+nobody-struck ws k e = struck-missed ws k (ap (λ (b : Bool). k .active && b) (empty-meeting ws (dataSet k) e) ∙ and-false (k .active))
 
-pub strikes-none : (cores : List Core) → struckAll 0 cores ≡ cores
+pub strikes-none : (ws : ℕ) (cores : List Core) → isEmpty ws ≡ true → struckAll ws cores ≡ cores
 unfolding struckAll
-strikes-none [] = refl
-strikes-none (k ∷ ks) = ap₂ (λ (x : Core) (xs : List Core). x ∷ xs) (sym (nobody-struck k)) (strikes-none ks)
+strikes-none ws [] e = refl
+strikes-none ws (k ∷ ks) e = ap₂ (λ (x : Core) (xs : List Core). x ∷ xs) (sym (nobody-struck ws k e)) (strikes-none ws ks e)
 
-pub changed-none : (f : ℕ → ℕ → ℕ) (i : ℕ) (xs : List ℕ) → changed 0 f i xs ≡ xs
+pub changed-none : (f : ℕ → ℕ → ℕ) (i : ℕ) (xs : List ℕ) → changed none f i xs ≡ xs
 unfolding changed
 changed-none f i [] = refl
-changed-none f i (x ∷ xs) = ap₂ (λ (y : ℕ) (ys : List ℕ). y ∷ ys) (rw (has-zero i) refl) (changed-none f (suc i) xs)
+changed-none f i (x ∷ xs) = ap₂ (λ (y : ℕ) (ys : List ℕ). y ∷ ys) (rw (has-none i) refl) (changed-none f (suc i) xs)
 
 -- past core c every core is by `struckBy`
 struck-past : (ws c i : ℕ) (cores : List Core) → c < i → cleared ws c i cores ≡ struckAll ws cores
@@ -94,11 +91,11 @@ module _ (ws : ℕ) (old : List Core) where
       stands-all (struckAll ws old) old (strikes-long ws old) n now noCore at (λ e l p. absurd (omega arith))
 
   -- as far as the loop has to go: nowhere, where the write set is empty
-  pub strikes-reached : (e : ℕ) (now : List Core) → Stands e (struckAll ws old) old now → length old ≡ 16 → cond (eqb ws 0) 0 16 ≤ e → now ≡ struckAll ws old
-  strikes-reached e now at long = go (eqb ws 0) refl
+  pub strikes-reached : (e : ℕ) (now : List Core) → Stands e (struckAll ws old) old now → length old ≡ 16 → cond (isEmpty ws) 0 16 ≤ e → now ≡ struckAll ws old
+  strikes-reached e now at long = go (isEmpty ws) refl
     where
-      go : (b : Bool) → eqb ws 0 ≡ b → cond b 0 16 ≤ e → now ≡ struckAll ws old
+      go : (b : Bool) → isEmpty ws ≡ b → cond b 0 16 ≤ e → now ≡ struckAll ws old
       go true t l =
           stands-all (struckAll ws old) old (strikes-long ws old) e now noCore at
-          (λ i h p. ap (λ (xs : List Core). getD xs i noCore) (sym (ap (λ (x : ℕ). struckAll x old) (eqb-true ws 0 t) ∙ strikes-none old)))
+          (λ i h p. ap (λ (xs : List Core). getD xs i noCore) (sym (strikes-none ws old t)))
       go false t l = strikes-done e now at (omega (arith, long))

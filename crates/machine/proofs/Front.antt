@@ -34,17 +34,6 @@ module _ {A : Type 0} where
   store zero (x ∷ xs) (y ∷ ys) d s l = refl
   store (suc i) (x ∷ xs) (y ∷ ys) d s l = ap (λ (r : List A). x ∷ r) (store i xs ys d (omega arith) (omega arith))
 
-  -- past the end nothing changes
-  past : (i : ℕ) (new old : List A) → length new ≡ length old → length old ≤ i → front i new old ≡ front (suc i) new old
-  past zero [] [] s l = refl
-  past zero [] (y ∷ ys) s l = absurd (omega arith)
-  past zero (x ∷ xs) [] s l = absurd (omega arith)
-  past zero (x ∷ xs) (y ∷ ys) s l = absurd (omega arith)
-  past (suc i) [] [] s l = refl
-  past (suc i) [] (y ∷ ys) s l = absurd (omega arith)
-  past (suc i) (x ∷ xs) [] s l = absurd (omega arith)
-  past (suc i) (x ∷ xs) (y ∷ ys) s l = ap (λ (r : List A). x ∷ r) (past i xs ys (omega arith) (omega arith))
-
   rest : (n : ℕ) (new old : List A) (d : A) → length new ≡ length old
       → ((i : ℕ) → i < length old → n ≤ i → getD old i d ≡ getD new i d) → front n new old ≡ new
   rest zero new old d s h = ext-getD d old new (sym s) (λ i l. h i l (omega arith))
@@ -79,11 +68,6 @@ module _ {A : Type 0} where
         → next ≡ now → Stands (i + 1) new old next
     stands-kept i now next d at l e p =
         stands-stored i now next d (getD now i d) at l (stands-next i now d at l ∙ e) (p ∙ sym (set-getD now i d))
-
-    -- a turn past the end
-    pub stands-past : (i : ℕ) (now next : List A) → Stands i new old now → length old ≤ i → next ≡ now → Stands (i + 1) new old next
-    stands-past i now next at l p =
-        stands (i + 1) next (p ∙ at .1 ∙ past i new old s l ∙ ap (λ (n : ℕ). front n new old) (sym (add-one i)))
 
     -- the loop may end where the other entries are the same in both
     pub stands-all : (n : ℕ) (now : List A) (d : A) → Stands n new old now

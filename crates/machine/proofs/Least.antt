@@ -12,7 +12,7 @@ use Rattle.objset.specs.Objset.{some}
 use Rattle.objset.proofs.Laws.{both-left, both-right, one-some}
 use Rattle.core.specs.declared.Core.{Core}
 use Rattle.core.specs.Parts.{noCore}
-use Rattle.core.specs.Life.{onlyLooks, conflicting, conflictsBelow, holdsBack}
+use Rattle.core.specs.Life.{isReadOnly, conflicting, conflictsBelow, holdsBack}
 use Rattle.machine.specs.Rule.{leastBy}
 use Rattle.machine.specs.OneCore.{firstHolding}
 
@@ -147,15 +147,15 @@ module _ (cores : List Core) (k : Core) where
             absurd (true≢false (sym (subst (λ (u : ℕ). conflictsBelow u (getD cores e noCore) k ≡ true) (sym beat) here) ∙ miss))
         go false none false here q t is beat = (is, beat)
 
-  -- nobody is looked at for one that only looks
+  -- nobody is looked at for a read-only one
   waits-for : Bool → ℕ
-  waits-for looks = cond (not looks && some 16 holding) (soFar 16) 16
+  waits-for idle = cond (not idle && some 16 holding) (soFar 16) 16
 
-  pub looked-at-nobody : onlyLooks k ≡ true → 16 ≡ firstHolding cores k
+  pub looked-at-nobody : isReadOnly k ≡ true → 16 ≡ firstHolding cores k
   unfolding waits-for
-  looked-at-nobody looks = ap waits-for (sym looks)
+  looked-at-nobody e = ap waits-for (sym e)
 
   -- all had their turn
-  pub looked-all : (e ahead below : ℕ) → onlyLooks k ≡ false → e ≡ 16 → Looked e ahead below → ahead ≡ firstHolding cores k
+  pub looked-all : (e ahead below : ℕ) → isReadOnly k ≡ false → e ≡ 16 → Looked e ahead below → ahead ≡ firstHolding cores k
   unfolding waits-for
   looked-all e ahead below wrote all l = l .found ∙ ap (λ (n : ℕ). cond (some n holding) (soFar n) 16) all ∙ ap waits-for (sym wrote)

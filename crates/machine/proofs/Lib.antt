@@ -12,6 +12,7 @@ mod SetLoop
 pub mod CommitLaws
 pub mod StrikeLoop
 mod SoundLaws
+pub mod BlankLaws
 pub mod Refusals
 mod Told
 pub mod Case

@@ -7,6 +7,10 @@ mod RoundsBound
 mod Fates
 mod Served
 mod FirstNamed
+pub mod ShortAttempts
+pub mod CountedRounds
+mod TightRun
+mod InventedSetback
 mod Attempts
 mod Moments
 mod Serially
@@ -17,6 +21,6 @@ mod CoreAgrees
 mod Agreement
 mod AgreementCommit
 mod Steps
-mod Looking
+mod ReadOnly
 pub mod WholeRun
 pub mod EveryList

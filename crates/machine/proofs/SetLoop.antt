@@ -1,61 +1,81 @@
--- A loop over the objects of a set: before the turn of object d, the number that is left holds the objects from d on.
-use mathlib.Core.Path.{_≡_, refl, ap, subst, _∙_}
-use mathlib.Core.Bool.{Bool, true, false}
-use Prim.Native.Nat.{ℕ, suc, _+_, _*_, _-_, _^_, _≤_, _<_, _/_, _%_}
-use native.Mathlib.Nat.{pow-suc, div-one}
+-- A loop that goes over the objects of a set by taking one out at each turn: the entries of the objects that are left are as they
+-- were, every other is what the set makes of it.
+use mathlib.Core.Path.{_≡_, refl, sym, ap, _∙_}
+use mathlib.Core.Bool.{Bool, true, false, not, _&&_, and-true}
+use mathlib.Core.List.{List}
+use Prim.Native.Nat.{ℕ, _^_, _<_}
 use native.Mathlib.Omega.{arith}
-use lib.Dec.{eqb, ltb}
-use borrow.Author.Tests.{ltb-true, ltb-false, eq-eqb, ne-eqb}
-use Rattle.objset.specs.Objset.{has}
-use Rattle.objset.proofs.Digits.{has-half, has-zero}
+use lib.Dec.{eqb}
+use lib.ListN.{length, getD, set, length-set}
+use lib.Seq.{getD-set-same, getD-set-other, ext-getD}
+use borrow.Author.Tests.{ne-eqb, eqb-false, not-true}
+use Rattle.objset.specs.Objset.{has, isEmpty, removed}
+use Rattle.objset.proofs.Laws.{both-left, both-right, has-removed, removed-fits, empty-has}
+use Rattle.machine.specs.Rule.{changed}
+use Rattle.machine.proofs.Entries.{here-or-else, changed-at, changed-long}
 
--- what is left of the set ws before the turn of object d
-pub record Rest (ws d rest : ℕ) : Type 0 where
-  pub few : d ≤ 64
-  pub small : rest < 2 ^ (64 - d)
-  pub same : (j : ℕ) → has ws (d + j) ≡ has rest j
+-- what is left of the set ws
+pub record Left (ws rest : ℕ) : Type 0 where
+  pub fits : rest < 2 ^ 64
+  pub within : (d : ℕ) → has rest d ≡ true → has ws d ≡ true
 
-pub rest-all : (ws : ℕ) → ws < 2 ^ 64 → Rest ws 0 ws
-rest-all ws fits = record { few = omega arith; small = fits; same = λ j. ap (has ws) (omega arith) }
+pub left-all : (ws : ℕ) → ws < 2 ^ 64 → Left ws ws
+left-all ws h = record { fits = h; within = λ d p. p }
 
-has-first : (s : ℕ) → has s 0 ≡ eqb (s % 2) 1
-unfolding has
-has-first s = ap (λ (x : ℕ). eqb (x % 2) 1) (div-one s)
+pub left-next : (ws rest d : ℕ) → Left ws rest → Left ws (removed rest d)
+left-next ws rest d l =
+    record {
+      fits = removed-fits rest d;
+      within = λ e p. l .within e (both-left (has rest e) (not (eqb e d)) (sym (has-removed rest d e (l .fits)) ∙ p));
+    }
 
-module _ (ws d rest : ℕ) (r : Rest ws d rest) where
-  -- its last digit is that of object d
-  here : has ws d ≡ eqb (rest % 2) 1
-  here = ap (has ws) (omega arith) ∙ r .same 0 ∙ has-first rest
+module _ (ws : ℕ) (f : ℕ → ℕ → ℕ) (old : List ℕ) where
+  -- the list `now` while `rest` is left
+  pub record Turned (rest : ℕ) (now : List ℕ) : Type 0 where
+    pub same-length : length now ≡ length old
+    pub waiting : (d : ℕ) → d < length old → has rest d ≡ true → getD now d 0 ≡ getD old d 0
+    pub done : (d : ℕ) → d < length old → has rest d ≡ false → getD now d 0 ≡ getD (changed ws f 0 old) d 0
 
-  pub rest-here : rest % 2 ≡ 1 → has ws d ≡ true
-  rest-here e = here ∙ eq-eqb (rest % 2) 1 e
-
-  pub rest-not-here : (rest % 2 ≡ 1 → ⊥) → has ws d ≡ false
-  rest-not-here e = here ∙ ne-eqb (rest % 2) 1 e
-
-  -- where something is left, object d has a place
-  pub rest-place : (rest ≡ 0 → ⊥) → d < 64
-  rest-place some = go (ltb d 64) refl
-    where
-      go : (q : Bool) → ltb d 64 ≡ q → d < 64
-      go true t = ltb-true d 64 t
-      go false t =
-          let all : _≡_ {A = ℕ} (64 - d) 0 = omega (arith, ltb-false d 64 t) in
-          let none : rest < 1 = subst (λ (n : ℕ). rest < 2 ^ n) all (r .small) in
-          absurd (some (omega arith))
-
-  -- its half is left after that turn
-  pub rest-next : (rest ≡ 0 → ⊥) → Rest ws (d + 1) (rest / 2)
-  rest-next some =
-      let place : d < 64 = rest-place some in
-      let one-less : 64 - d ≡ suc (64 - (d + 1)) = omega arith in
-      let double : rest < 2 ^ (64 - (d + 1)) * 2 = subst (λ (n : ℕ). rest < n) (ap (λ (n : ℕ). 2 ^ n) one-less ∙ pow-suc 2 (64 - (d + 1))) (r .small) in
+  pub turned-none : Turned ws old
+  turned-none =
       record {
-        few = omega arith;
-        small = omega arith;
-        same = λ j. ap (has ws) (omega arith) ∙ r .same (suc j) ∙ has-half rest j;
+        same-length = refl;
+        waiting = λ d l p. refl;
+        done = λ d l p. sym (changed-at ws f old d l ∙ rw p refl);
       }
 
-  -- where nothing is left, no object from d on is in the set
-  pub rest-none : rest ≡ 0 → (j : ℕ) → d ≤ j → has ws j ≡ false
-  rest-none e j l = ap (has ws) (omega arith) ∙ r .same (j - d) ∙ ap (λ (s : ℕ). has s (j - d)) e ∙ has-zero (j - d)
+  -- a turn of object d
+  pub turned-next : (rest d : ℕ) (now next : List ℕ) → Left ws rest → Turned rest now → d < length old → has rest d ≡ true
+      → next ≡ set now d (f d (getD now d 0)) → Turned (removed rest d) next
+  turned-next rest d now next left at l p e =
+      record {
+        same-length = ap length e ∙ length-set now d v ∙ at .same-length;
+        waiting = λ j k q.
+            let both = sym (has-removed rest d j (left .fits)) ∙ q in
+            ap (λ (xs : List ℕ). getD xs j 0) e
+            ∙ getD-set-other now d j v 0 (eqb-false j d (not-true (eqb j d) (both-right (has rest j) (not (eqb j d)) both)))
+            ∙ at .waiting j k (both-left (has rest j) (not (eqb j d)) both);
+        done = λ j k q. ap (λ (xs : List ℕ). getD xs j 0) e ∙ here-or-else Done d j here (λ other. elsewhere j other) k q;
+      }
+    where
+      v : ℕ
+      v = f d (getD now d 0)
+
+      Done : ℕ → Type 0
+      Done j = j < length old → has (removed rest d) j ≡ false → getD (set now d v) j 0 ≡ getD (changed ws f 0 old) j 0
+
+      here : Done d
+      here k q =
+          getD-set-same now d v 0 (omega (arith, l, at .same-length))
+          ∙ ap (f d) (at .waiting d l p)
+          ∙ sym (changed-at ws f old d l ∙ rw (left .within d p) refl)
+
+      elsewhere : (j : ℕ) → (j ≡ d → ⊥) → Done j
+      elsewhere j other k q =
+          getD-set-other now d j v 0 other
+          ∙ at .done j k (sym (and-true (has rest j)) ∙ ap (λ (b : Bool). has rest j && not b) (sym (ne-eqb j d other)) ∙ sym (has-removed rest d j (left .fits)) ∙ q)
+
+  pub turned-all : (rest : ℕ) (now : List ℕ) → rest < 2 ^ 64 → isEmpty rest ≡ true → Turned rest now → now ≡ changed ws f 0 old
+  turned-all rest now h e at =
+      ext-getD 0 now (changed ws f 0 old) (at .same-length ∙ sym (changed-long ws f 0 old))
+      (λ d l. at .done d (omega (arith, at .same-length)) (empty-has rest d h e))

@@ -4,8 +4,8 @@ use mathlib.Core.Bool.{Bool, true, false, cond}
 use mathlib.Core.List.{List}
 use Prim.Native.Nat.{ℕ, _+_, _≤_, _<_}
 use native.Mathlib.Omega.{arith}
-use lib.Dec.{eqb}
 use lib.ListN.{length, getD, set}
+use Rattle.objset.specs.Objset.{isEmpty}
 use Rattle.core.specs.declared.Core.{Core}
 use Rattle.core.specs.Parts.{noCore}
 use Rattle.core.specs.Life.{isStruck, aborted}
@@ -36,8 +36,8 @@ pub record Striking (ws : ℕ) (m₀ : Machine) (reach : ℕ) (m : Machine) (e :
   pub same : m ≡ withCores m₀ (m .core)
 
 -- the loop goes as far as there are cores
-pub reached : (n ws : ℕ) → n ≡ cond (eqb ws 0) 0 16 → n ≤ 16
-reached n ws e = subst (λ (x : ℕ). x ≤ 16) (sym e) (go (eqb ws 0))
+pub reached : (n ws : ℕ) → n ≡ cond (isEmpty ws) 0 16 → n ≤ 16
+reached n ws e = subst (λ (x : ℕ). x ≤ 16) (sym e) (go (isEmpty ws))
   where
     go : (b : Bool) → cond b 0 16 ≤ 16
     go true = omega arith

@@ -4,13 +4,13 @@
 use mathlib.Core.Path.{_≡_}
 use mathlib.Core.Bool.{true, false}
 use mathlib.Core.List.{List, [], _∷_, _++_}
-use Prim.Native.Nat.{ℕ, _+_, _*_, _≤_, _<_}
+use Prim.Native.Nat.{ℕ, suc, _+_, _*_, _≤_, _<_}
 use Rattle.core.specs.declared.Answer.{Answer}
-use Rattle.core.specs.declared.Answer.the-variants.{Value, SetBack, Committed}
+use Rattle.core.specs.declared.Answer.the-variants.{Value, Committed}
 use Rattle.machine.specs.Record.{tally}
 use Rattle.machine.specs.Rule.{World, rule, Call, Read, Commit}
 use Rattle.machine.specs.Follows.{Follows}
-use Rattle.machine.specs.Words.{Event, Deed, begins, waits, commits, deeds, inProgress, births, born, ahead, wroteNothing, attempt, strikes, conflict, struck, setBacks}
+use Rattle.machine.specs.Words.{Event, Deed, begins, waits, commits, told, deeds, inProgress, births, born, ahead, wroteNothing, attempt, strikes, conflict, struck, setBacks}
 use Rattle.machine.specs.Rounds.{Rounds, fate, committed, given-up, AtMost}
 use Rattle.machine.specs.Serial.{replays, serial, stood, settled, version}
 use Rattle.core.specs.Parts.{mostCores}
@@ -40,8 +40,9 @@ pub record ByTheRule (w₀ : World) (es : List Event) (w : World) : Type 0 where
 
 -- Demand 3, of every transaction T begun in the list. A moment is a list of the deeds so far, early; late is what came after it.
 pub record Served (h : List Deed) : Type 0 where
-  -- set back at most k times, by any moment while it is in progress; k, `ahead`, counts the earlier ones in progress at its begin
-  pub at-most-k : (late early : List Deed) (c : ℕ) → h ≡ late ++ early → inProgress early c ≡ true → struck early c ≤ ahead early c
+  -- this holds after every call: T was set back at most k times; T is the last one begun on core c, in progress or over, and k,
+  -- `ahead`, counts the earlier ones in progress at its begin
+  pub at-most-k : (late early : List Deed) (c : ℕ) → h ≡ late ++ early → struck early c ≤ ahead early c
   -- never by a later one
   pub never-by-later : (late early : List Deed) (b n c : ℕ) → h ≡ late ++ commits b n ∷ early → strikes (commits b n) early c ≡ true
       → born early b < born early c
@@ -52,9 +53,12 @@ pub record Served (h : List Deed) : Type 0 where
   pub none-before : (late early : List Deed) (c e b : ℕ) → h ≡ late ++ waits c e ∷ early
       → inProgress early b ≡ true → born early b < born early c → conflict early c b ≡ true → born early e ≤ born early b
   -- and never while its present attempt has written nothing (document 02, paper 4)
-  pub no-looker-waits : (late early : List Deed) (c e : ℕ) → h ≡ late ++ waits c e ∷ early → wroteNothing (attempt early c) ≡ false
+  pub no-readonly-waits : (late early : List Deed) (c e : ℕ) → h ≡ late ++ waits c e ∷ early → wroteNothing (attempt early c) ≡ false
   -- its reported setbacks are the commits that struck it, and as many of its calls were answered set back
   pub reported : (late early : List Deed) (c n : ℕ) → h ≡ late ++ commits c n ∷ early → (n ≡ struck early c) × (n ≡ setBacks early c)
+  -- a call is answered set back only while its transaction is in progress, and has one strike behind it that was not told, and no more
+  pub told-a-strike : (late early : List Deed) (c : ℕ) → h ≡ late ++ told c ∷ early
+      → (inProgress early c ≡ true) × (struck early c ≡ suc (setBacks early c))
   -- if not given up and with at most l reads and writes in any attempt of T and those k, committed within (k + 1) × (l + 2) rounds
   pub within-rounds : (late since early : List Deed) (c l : ℕ) → h ≡ late ++ since ++ begins c ∷ early
       → AtMost l (births early) (begins c ∷ early) since
@@ -70,18 +74,20 @@ pub record Serial (objects : ℕ) (h : List Deed) : Type 0 where
       → (between then-on : List Deed) × (early ≡ between ++ then-on) × (settled then-on ≡ true)
       × (stood (attempt early c) (serial objects then-on) ≡ true)
 
--- Demand 3 of those who only look (document 02, paper 4), from the calls and answers of the list.
-pub record Looking (es : List Event) : Type 0 where
-  -- an attempt that has written nothing ends, by its own commit, at its first commit request that is not answered set back
-  pub looker-commits : (late early : List Event) (c : ℕ) (a : Answer) → es ≡ late ++ record { call = Commit c; answer = a } ∷ early
-      → inProgress (deeds early) c ≡ true → wroteNothing (attempt (deeds early) c) ≡ true → (a ≡ SetBack → ⊥)
+-- Demand 3 of read-only ones (document 02, paper 4), from the calls and answers of the list.
+pub record ReadOnly (es : List Event) : Type 0 where
+  -- unmarked and with an empty write set, it commits when requested: its present attempt has written nothing, and unmarked is, in the
+  -- words of demand 3, struck as often as told; then its commit is answered committed, with its strikes
+  pub readonly-commits : (late early : List Event) (c : ℕ) (a : Answer) → es ≡ late ++ record { call = Commit c; answer = a } ∷ early
+      → inProgress (deeds early) c ≡ true → wroteNothing (attempt (deeds early) c) ≡ true
+      → struck (deeds early) c ≡ setBacks (deeds early) c
       → a ≡ Committed (struck (deeds early) c)
 
 -- The whole claim, about a run from w₀ over the list es to the world w.
 pub record Claim (w₀ : World) (es : List Event) (w : World) : Type 0 where
   pub by-the-rule : ByTheRule w₀ es w
   pub served : Served (deeds es)
-  pub looking : Looking es
+  pub read-only : ReadOnly es
   pub serially : Serial (w₀ .machine .objects) (deeds es)
   -- and the serial run left in the cards what the run left, after each call
   pub same-cards : (late early : List Event) → es ≡ late ++ early → worked w₀ early .committed ≡ serial (w₀ .machine .objects) (deeds early)

@@ -12,7 +12,7 @@ use Rattle.core.specs.declared.calls.Seen.{Seen}
 use Rattle.core.specs.declared.calls.Acted.{Acted}
 use Rattle.core.specs.declared.calls.Settled.{Settled}
 use Rattle.core.specs.Parts.{mostCores, noCore}
-use Rattle.core.specs.Life.{onlyLooks, holdsBack, struckBy}
+use Rattle.core.specs.Life.{isReadOnly, holdsBack, struckBy}
 use Rattle.machine.specs.declared.Machine.{Machine}
 use Rattle.machine.specs.declared.Outcome.{Outcome}
 use Rattle.machine.specs.declared.inside.calls.Found.{Found}
@@ -76,11 +76,11 @@ handed x = record { answer = x .answer; machine = x .world .machine }
 -- ---- commit
 
 -- the core that core k's transaction waits for at its commit: of those that hold it back the one of smallest ticket; 16 where none does, or
--- where it only looks
+-- where it is read-only
 abbrev pub firstHolding : List Core → Core → ℕ
 firstHolding cores k =
     let holding : (ℕ → Bool) = λ e. holdsBack (getD cores e noCore) k in
-    cond (not (onlyLooks k) && some mostCores holding) (leastBy (λ e. getD cores e noCore .ticket) mostCores holding) mostCores
+    cond (not (isReadOnly k) && some mostCores holding) (leastBy (λ e. getD cores e noCore .ticket) mostCores holding) mostCores
 
 -- each transaction that the write set ws strikes is set back
 unfoldable pub struckAll : ℕ → List Core → List Core

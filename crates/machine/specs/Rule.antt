@@ -13,7 +13,7 @@ use Rattle.core.specs.declared.Answer.{Answer}
 use Rattle.core.specs.declared.Answer.the-variants.{Ready, Running, Queued, Begun, Value, Written, Waits, Committed, SetBack, Ended, Finished, Refused}
 use Rattle.machine.specs.declared.Outcome.{Outcome}
 use Rattle.core.specs.Parts.{mostCores, jobAt, running}
-use Rattle.core.specs.Life.{withJob, withoutJob, withTransaction, unmarked, withRead, withWrite, onlyLooks, holdsBack, struckBy, over}
+use Rattle.core.specs.Life.{withJob, withoutJob, withTransaction, unmarked, withRead, withWrite, isReadOnly, holdsBack, struckBy, over}
 use Rattle.core.specs.Calls as Core
 use Rattle.core.specs.Calls.{first}
 use Rattle.machine.specs.Record.{coreAt, activeAt, sizesInRange, blank, machineOf, putCore}
@@ -192,9 +192,9 @@ contender m c e = holdsBack (coreAt m e) (coreAt m c)
 unfoldable pub blocked : Machine → ℕ → Bool
 blocked m c = some mostCores (contender m c)
 
--- if a conflicting transaction has a smaller ticket, a commit waits, unless it only looks: then it commits when requested (document 02, paper 4)
+-- if a conflicting transaction has a smaller ticket, a commit waits, unless it is read-only: then it commits when requested (document 02, paper 4)
 abbrev pub mustWait : Machine → ℕ → Bool
-mustWait m c = not (onlyLooks (coreAt m c)) && blocked m c
+mustWait m c = not (isReadOnly (coreAt m c)) && blocked m c
 
 -- of the numbers below n that pass f, if one does, the one of smallest key, the first of them among equals
 unfoldable pub leastBy : (ℕ → ℕ) → ℕ → (ℕ → Bool) → ℕ

@@ -8,7 +8,7 @@ use Rattle.objset.specs.Objset.{mostObjects, each}
 use Rattle.machine.specs.declared.Machine.{Machine}
 use Rattle.core.specs.declared.Core.{Core}
 use Rattle.machine.specs.Record.{coreAt, activeAt, tally, sizesInRange}
-use Rattle.core.specs.Tidy.{_⇒_, setsWithinOn, ownerListedOn, idleClearOn, zombieEmptyOn, fewJobsOn, unusedJobsOn, ownerFirstOn, unused}
+use Rattle.core.specs.Tidy.{_⇒_, setsWithinOn, ownerListedOn, idleClearOn, zombieEmptyOn, fewJobsOn, unusedJobsOn, ownerFirstOn, unused, blankOn}
 use Rattle.core.specs.Parts.{mostCores}
 
 -- a rule that each of the sixteen places for cores keeps
@@ -112,6 +112,14 @@ unfoldable pub sound : Machine → Bool
 sound m =
     inRange m && setsWithin m && ownerListed m && idleClear m && zombieEmpty m && fewJobs m && unusedJobs m && lackedCores m
     && lackedObjects m && ownerFirst m && ticketsDiffer m && ticketsGiven m && ticketsCounted m && versionsBounded m && abortsBounded m
+
+-- ---- the blank record, which is no machine's
+
+-- all fields are 0
+unfoldable pub isBlank : Machine → Bool
+isBlank m =
+    eqb (m .cores) 0 && eqb (m .objects) 0 && eqb (m .tickets) 0 && eqb (m .commits) 0 && eqb (m .«give_ups») 0
+    && each mostObjects (λ d. eqb (getD (m .versions) d 0) 0) && eachCore blankOn m
 
 -- ---- the rules as they are tested together: of the cards, of the cores by themselves, of the transactions in progress
 

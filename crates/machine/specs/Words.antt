@@ -145,7 +145,7 @@ unfoldable pub born : List Deed → ℕ → ℕ
 born [] c = 0
 born (x ∷ h) c = cond (beginsOn x c) (births h) (born h c)
 
--- the number of earlier ones in progress when it was begun (demand 3: k)
+-- the number of earlier ones in progress when the last transaction on core c was begun (demand 3: k)
 unfoldable pub ahead : List Deed → ℕ → ℕ
 ahead [] c = 0
 ahead (x ∷ h) c = cond (beginsOn x c) (tally mostCores (inProgress h)) (ahead h c)
@@ -196,7 +196,7 @@ touched a d = any (λ x. touches x d) a
 unfoldable pub wrote : List Deed → ℕ → Bool
 wrote a d = any (λ x. stores x d) a
 
--- an attempt has written nothing: it only looks (document 02, paper 4)
+-- an attempt has written nothing: it is read-only (document 02, paper 4: it only looks)
 unfoldable pub wroteNothing : List Deed → Bool
 wroteNothing a = not (any storesAny a)
 
@@ -234,7 +234,7 @@ strikes x h c = strikesGiven x (inProgress h) (attempt h) c
 unfoldable pub conflict : List Deed → ℕ → ℕ → Bool
 conflict h b c = crosses (attempt h b) (attempt h c) || crosses (attempt h c) (attempt h b)
 
--- being set back is being struck: how often the transaction in progress on core c was
+-- being set back is being struck: how often the last transaction begun on core c was, in progress or over
 unfoldable pub struck : List Deed → ℕ → ℕ
 struck [] c = 0
 struck (x ∷ h) c = cond (beginsOn x c) 0 (cond (strikes x h c) 1 0 + struck h c)

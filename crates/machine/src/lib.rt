@@ -6,6 +6,7 @@ use crate::inside::calls::alone;
 use crate::inside::commit;
 use crate::setup::clear;
 use crate::setup::fresh;
+use crate::soundness::all_zero;
 use crate::soundness::is_sound;
 use core::Answer;
 use core::CORES;
@@ -16,7 +17,7 @@ ghost use mathlib.Core.Path.{_≡_};
 ghost use mathlib.Core.Bool.{_&&_};
 ghost use Prim.Native.Nat.{_*_};
 ghost use lib.Dec.{eqb};
-ghost use Rattle.machine.specs.Sound.{sound};
+ghost use Rattle.machine.specs.Sound.{sound, isBlank};
 ghost use Rattle.machine.specs.Rule as Rule;
 ghost use Rattle.machine.specs.Rule.{lent, left};
 ghost use Rattle.machine.specs.Record.{blank, sizesInRange};
@@ -96,6 +97,13 @@ impl Machine {
         ensures { λ r. ⌜ r ≡ blank ⌝ }
     {
         fresh(0, 0)
+    }
+
+    // Whether the record is the blank one.
+    pub fn is_blank(self) -> bool
+        ensures { λ r. ⌜ r ≡ isBlank self ⌝ }
+    {
+        all_zero(self)
     }
 
     // Whether the record keeps the standing rules.

@@ -8,7 +8,7 @@ use core::is_tidy;
 use objset::OBJECTS;
 ghost use mathlib.Core.Path.{_≡_};
 ghost use Prim.Native.Nat.{_<_};
-ghost use Rattle.machine.specs.Sound.{cardsSound, turnKept, coresSound, sound};
+ghost use Rattle.machine.specs.Sound.{cardsSound, turnKept, coresSound, sound, isBlank};
 ghost use Rattle.core.specs.Parts.{mostCores};
 
 // Whether no version exceeds the commits, and the places for objects (document 01: cards) that the machine lacks hold zeros. The loop is
@@ -92,6 +92,31 @@ pub fn is_sound(m: Machine) -> bool
     ensures { λ r. ⌜ r ≡ sound m ⌝ }
 {
     if !in_range(m.cores as u32, m.objects as u32) {
+        return false;
+    }
+    if !versions_bounded(m) {
+        return false;
+    }
+    cores_kept(m)
+}
+
+// Whether the record is blank: all fields are 0. Of a record without cores and cards the tests of both ask that every place holds zeros.
+pub fn all_zero(m: Machine) -> bool
+    ensures { λ r. ⌜ r ≡ isBlank m ⌝ }
+{
+    if m.cores != 0 {
+        return false;
+    }
+    if m.objects != 0 {
+        return false;
+    }
+    if m.tickets != 0 {
+        return false;
+    }
+    if m.commits != 0 {
+        return false;
+    }
+    if m.give_ups != 0 {
         return false;
     }
     if !versions_bounded(m) {

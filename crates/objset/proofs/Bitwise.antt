@@ -1,16 +1,16 @@
 -- The bitwise operators on 64-bit words are the definitions by membership.
 use mathlib.Core.Path.{_≡_, refl, sym, ap, ap₂, _∙_, subst}
 use mathlib.Core.Bool.{Bool, true, false, cond, not, _&&_, _||_, true≢false}
-use Prim.Native.Nat.{ℕ, zero, suc, _*_, _%_, _^_, _≤_, _<_}
+use Prim.Native.Nat.{ℕ, _-_, _*_, _%_, _^_, _≤_, _<_}
 use native.Mathlib.Omega.{arith}
 use native.Mathlib.Nat.{lt-of-lt-of-le, le-of-lt, one-mul, mod-eq-of-lt}
 use lib.Bits.{bitAnd, bitOr, and-lt, or-lt, or-zero-r}
 use lib.Dec.{eqb, ltb}
 use lib.Pow.{pow-lt, pow-mono}
-use borrow.Author.Tests.{lt-ltb, le-ltb, ltb-true, ltb-false, eqb-false, eq-eqb, ne-eqb}
-use Rattle.objset.specs.Objset.{has, collect, maskOf, isEmpty, added, joined, meeting, below}
-use Rattle.objset.proofs.Digits.{has-or, has-and, has-mask, has-zero, has-past, collect-fits, has-collect, same-digits}
-use Rattle.objset.proofs.Laws.{same-members, filled-one, one-filled, has-added, has-joined, added-fits, joined-fits, added-outside, meeting-one, one-meeting, below-member, member-below, member-bound}
+use borrow.Author.Tests.{lt-ltb, le-ltb, ltb-true, ltb-false, eq-eqb, ne-eqb}
+use Rattle.objset.specs.Objset.{has, collect, maskOf, isEmpty, added, removed, joined, meeting, below}
+use Rattle.objset.proofs.Digits.{has-or, has-and, has-not, has-mask, has-zero, has-past, collect-fits, has-collect}
+use Rattle.objset.proofs.Laws.{same-members, filled-one, one-filled, has-added, has-removed, has-joined, added-fits, removed-fits, joined-fits, added-outside, meeting-one, one-meeting, below-member, member-below}
 
 -- a word is 0 if and only if its set is empty
 pub zero-means-empty : (s : ℕ) → s < 2 ^ 64 → eqb s 0 ≡ isEmpty s
@@ -45,6 +45,13 @@ pub mask-outside : (d : ℕ) → 64 ≤ d → maskOf d ≡ 0
 unfolding maskOf
 mask-outside d h = ap (λ (b : Bool). cond b (2 ^ d) 0) (le-ltb d 64 h)
 
+mask-fits : (d : ℕ) → maskOf d < 2 ^ 64
+mask-fits d = go (ltb d 64) refl
+  where
+    go : (b : Bool) → ltb d 64 ≡ b → maskOf d < 2 ^ 64
+    go true t = subst (λ (m : ℕ). m < 2 ^ 64) (sym (mask-inside d (ltb-true d 64 t))) (pow-lt (ltb-true d 64 t))
+    go false t = subst (λ (m : ℕ). m < 2 ^ 64) (sym (mask-outside d (ltb-false d 64 t))) (omega arith)
+
 -- `s | mask of d` is s with d added, for any d
 pub or-mask : (s d : ℕ) → s < 2 ^ 64 → bitOr s (maskOf d) ≡ added s d
 or-mask s d hs = go (ltb d 64) refl
@@ -52,6 +59,23 @@ or-mask s d hs = go (ltb d 64) refl
     go : (b : Bool) → ltb d 64 ≡ b → bitOr s (maskOf d) ≡ added s d
     go true t = ap (bitOr s) (mask-inside d (ltb-true d 64 t)) ∙ or-added s d hs (ltb-true d 64 t)
     go false t = ap (bitOr s) (mask-outside d (ltb-false d 64 t)) ∙ or-zero-r s ∙ sym (added-outside s d hs (ltb-false d 64 t))
+
+-- the mask of d holds d alone, of the objects from 0 to 63
+has-maskOf : (d e : ℕ) → e < 64 → has (maskOf d) e ≡ eqb e d
+has-maskOf d e l = go (ltb d 64) refl
+  where
+    go : (b : Bool) → ltb d 64 ≡ b → has (maskOf d) e ≡ eqb e d
+    go true t = ap (λ (x : ℕ). has x e) (mask-inside d (ltb-true d 64 t)) ∙ has-mask d e
+    go false t = ap (λ (x : ℕ). has x e) (mask-outside d (ltb-false d 64 t)) ∙ has-zero e ∙ sym (ne-eqb e d (λ p. omega (arith, ltb-false d 64 t)))
+
+-- `s & !mask of d` is s without d, for any d
+pub and-not-mask : (s d : ℕ) → s < 2 ^ 64 → bitAnd s (2 ^ 64 - 1 - maskOf d) ≡ removed s d
+and-not-mask s d hs =
+    same-members (bitAnd s (2 ^ 64 - 1 - maskOf d)) (removed s d) (and-lt 64 s (2 ^ 64 - 1 - maskOf d) hs (omega arith)) (removed-fits s d)
+    (λ e l.
+    has-and s (2 ^ 64 - 1 - maskOf d) e
+    ∙ ap (λ (b : Bool). has s e && b) (has-not 64 (maskOf d) e (mask-fits d) l ∙ ap not (has-maskOf d e l))
+    ∙ sym (has-removed s d e hs))
 
 and-false : (b : Bool) → (b && false) ≡ false
 and-false true = refl

@@ -22,6 +22,11 @@ unfoldable pub each : ℕ → (ℕ → Bool) → Bool
 each zero f = true
 each (suc n) f = f n && each n f
 
+-- the first of the first n objects that passes the test f; n where none does
+unfoldable pub firstPassing : ℕ → (ℕ → Bool) → ℕ
+firstPassing zero f = 0
+firstPassing (suc n) f = cond (f 0) 0 (suc (firstPassing n (λ e. f (suc e))))
+
 -- how many objects there are at most (document 01: 64 cards)
 abbrev pub mostObjects : ℕ
 mostObjects = 64
@@ -38,9 +43,17 @@ none = collect mostObjects (λ e. false)
 unfoldable pub isEmpty : ℕ → Bool
 isEmpty s = not (some mostObjects (has s))
 
+-- the first object of the set; 64, which is no object, where it is empty
+unfoldable pub firstObject : ℕ → ℕ
+firstObject s = firstPassing mostObjects (has s)
+
 -- the set s with object d added
 unfoldable pub added : ℕ → ℕ → ℕ
 added s d = collect mostObjects (λ e. has s e || eqb e d)
+
+-- the set s without object d
+unfoldable pub removed : ℕ → ℕ → ℕ
+removed s d = collect mostObjects (λ e. has s e && not (eqb e d))
 
 -- the objects of both sets together
 unfoldable pub joined : ℕ → ℕ → ℕ

@@ -3,7 +3,7 @@
 // Each promise is an equation with a definition of specs/Objset.antt and holds for any numbers; those of the public functions speak of
 // membership alone.
 ghost use mathlib.Core.Path.{_≡_};
-ghost use Rattle.objset.specs.Objset.{maskOf, has, none, isEmpty, added, joined, meeting, below};
+ghost use Rattle.objset.specs.Objset.{maskOf, has, none, isEmpty, firstObject, added, removed, joined, meeting, below};
 
 // How many objects there are at most: the digits of a word.
 pub const OBJECTS: usize = 64;
@@ -12,14 +12,17 @@ pub const OBJECTS: usize = 64;
 fn mask(d: usize) -> u64
     ensures { λ r. ⌜ r ≡ maskOf d ⌝ }
 {
-    if d < OBJECTS { 1 << d } else { 0 }
+    if d < OBJECTS { 1 << d } else { EMPTY }
 }
+
+// The set that holds nothing: for constants and arrays.
+pub const EMPTY: u64 = 0;
 
 // The set that holds nothing.
 pub fn empty() -> u64
     ensures { λ r. ⌜ r ≡ none ⌝ }
 {
-    0
+    EMPTY
 }
 
 // Whether the set holds nothing.
@@ -40,11 +43,26 @@ pub fn contains(s: u64, d: usize) -> bool
     }
 }
 
+// The first object of the set, OBJECTS where it is empty. A caller goes over the objects of a set by taking the first one out, until the set
+// is empty.
+pub fn first(s: u64) -> usize
+    ensures { λ r. ⌜ r ≡ firstObject s ⌝ }
+{
+    u64::trailing_zeros(s) as usize
+}
+
 // The set s with object d added: s itself, where d is 64 or more.
 pub fn insert(s: u64, d: usize) -> u64
     ensures { λ r. ⌜ r ≡ added s d ⌝ }
 {
     s | mask(d)
+}
+
+// The set s without object d: s itself, where d is not in it.
+pub fn remove(s: u64, d: usize) -> u64
+    ensures { λ r. ⌜ r ≡ removed s d ⌝ }
+{
+    s & !mask(d)
 }
 
 // The objects that are in a, in b, or in both.

@@ -1,11 +1,11 @@
-// A transaction's life on its core: begun, told that it was set back, a card joins a set, struck, over; whether it only looks; and whether
+// A transaction's life on its core: begun, told that it was set back, a card joins a set, struck, over; whether it is read-only; and whether
 // two conflict.
 // `begin` asks for a list of at most 8 jobs, `abort` that the setbacks can rise.
 use crate::Core;
 use crate::inside::jobs::running_of;
 ghost use mathlib.Core.Path.{_≡_};
 ghost use Prim.Native.Nat.{_≤_, _<_};
-ghost use Rattle.core.specs.Life.{withTransaction, unmarked, withRead, withWrite, conflicting, conflictsBelow, isStruck, aborted, over, onlyLooks};
+ghost use Rattle.core.specs.Life.{withTransaction, unmarked, withRead, withWrite, conflicting, conflictsBelow, isStruck, aborted, over, isReadOnly};
 ghost use Rattle.core.specs.Parts.{mostJobs};
 
 // The running job's transaction begins, with this ticket.
@@ -51,9 +51,9 @@ pub fn add_write(mut k: Core, d: usize) -> Core
     k
 }
 
-// Whether it only looks (document 02, paper 4): the write set of its present attempt is empty.
-pub fn only_looks(k: Core) -> bool
-    ensures { λ r. ⌜ r ≡ onlyLooks k ⌝ }
+// Whether it is read-only (document 02, paper 4: it only looks): the write set of its present attempt is empty.
+pub fn read_only(k: Core) -> bool
+    ensures { λ r. ⌜ r ≡ isReadOnly k ⌝ }
 {
     objset::is_empty(k.writes)
 }

@@ -7,13 +7,12 @@ use native.Mathlib.Nat.{zero-add}
 use native.Mathlib.Omega.{arith}
 use lib.Dec.{eqb}
 use borrow.Author.Tests.{eqb-true, eqb-false, eq-eqb, ne-eqb}
-use Rattle.objset.specs.Objset.{has, some, added, meeting}
-use Rattle.objset.proofs.Digits.{has-zero}
-use Rattle.objset.proofs.Laws.{some-one, both-right, filled-one, has-joined, has-added, added-fits}
+use Rattle.objset.specs.Objset.{has, some, none, added, meeting}
+use Rattle.objset.proofs.Laws.{some-one, both-right, has-none, none-fits, filled-one, has-joined, has-added, added-fits}
 use Rattle.core.specs.declared.Core.{Core}
 use Rattle.core.specs.declared.Job.{Job}
 use Rattle.core.specs.Parts.{dataSet}
-use Rattle.core.specs.Life.{withList, withSets, unmarked, aborted, onlyLooks}
+use Rattle.core.specs.Life.{withList, withSets, unmarked, aborted, isReadOnly}
 use Rattle.machine.specs.Words.{Deed, begins, reads, writes, waits, commits, told, gives, other, stores, storesAny, any, touched, wrote, wroteNothing, crosses}
 use Rattle.machine.proofs.Run.View.{View, further, Over}
 
@@ -29,16 +28,16 @@ pub record CoreAgrees (k : Core) (v : View) : Type 0 where
   pub zombie-empty : k .zombie ≡ true → v .tried ≡ []
 
 -- a core with no sets, where no attempt is: its transaction is over, or none ever began
-pub agrees-idle : (k : Core) (v : View) → k .active ≡ false → k .zombie ≡ false → k .reads ≡ 0 → k .writes ≡ 0 → Over v → CoreAgrees k v
+pub agrees-idle : (k : Core) (v : View) → k .active ≡ false → k .zombie ≡ false → k .reads ≡ none → k .writes ≡ none → Over v → CoreAgrees k v
 unfolding wrote touched any
 agrees-idle k v p z r w o =
     record {
       same-going = p ∙ sym (o .0);
       same-order = λ g. absurd (true≢false (sym g ∙ o .0));
-      reads-fit = rw r (omega arith);
-      writes-fit = rw w (omega arith);
-      same-writes = λ d. rw (w, o .1) (has-zero d);
-      same-data = λ d. rw (r, w, o .1, has-zero d) refl;
+      reads-fit = rw r none-fits;
+      writes-fit = rw w none-fits;
+      same-writes = λ d. rw (w, o .1) (has-none d);
+      same-data = λ d. rw (r, w, o .1, has-none d) refl;
       same-hits = λ g. absurd (true≢false (sym g ∙ o .0));
       same-heard = λ g. absurd (true≢false (sym g ∙ o .0));
       zombie-empty = λ g. absurd (true≢false (sym g ∙ z));
@@ -117,7 +116,7 @@ unfolding meeting crosses
 meets-crosses k j u v a b =
     ap (some 64) (fun-ext (λ d. ap₂ _&&_ (a .same-writes d) (has-joined (j .reads) (j .writes) d (b .reads-fit) (b .writes-fit) ∙ b .same-data d)))
 
--- ---- an attempt that only looks
+-- ---- a read-only attempt
 
 store-any : (x : Deed) (d : ℕ) → stores x d ≡ true → storesAny x ≡ true
 store-any (begins b) d p = p
@@ -140,7 +139,7 @@ wrote-any (x ∷ a) d p = go (stores x d) refl p (wrote-any a d)
     go false s q more = ap (λ (b : Bool). storesAny x || b) (more q) ∙ or-comm (storesAny x) true
 
 -- where the write set holds a card, the attempt has written something
-pub writes-something : (k : Core) (v : View) → CoreAgrees k v → onlyLooks k ≡ false → wroteNothing (v .tried) ≡ false
+pub writes-something : (k : Core) (v : View) → CoreAgrees k v → isReadOnly k ≡ false → wroteNothing (v .tried) ≡ false
 unfolding wroteNothing
 writes-something k v a filled =
     let d = filled-one (k .writes) filled in
@@ -163,10 +162,10 @@ agrees-struck k v z a =
     record {
       same-going = a .same-going;
       same-order = a .same-order;
-      reads-fit = omega arith;
-      writes-fit = omega arith;
-      same-writes = has-zero;
-      same-data = λ d. rw (has-zero d) refl;
+      reads-fit = none-fits;
+      writes-fit = none-fits;
+      same-writes = has-none;
+      same-data = λ d. rw (has-none d) refl;
       same-hits = λ g. omega (arith, a .same-hits g);
       same-heard = λ g. ap (λ (n : ℕ). 1 + n) (a .same-heard g ∙ ap (λ (b : Bool). cond b 1 0 + v .heard) z ∙ zero-add (v .heard));
       zombie-empty = λ g. refl;
@@ -189,17 +188,17 @@ agrees-told k v z a =
     }
 
 -- just begun
-pub agrees-begun : (k : Core) (t : ℕ) → k .active ≡ true → k .ticket ≡ t → k .aborts ≡ 0 → k .zombie ≡ false → k .reads ≡ 0 → k .writes ≡ 0
+pub agrees-begun : (k : Core) (t : ℕ) → k .active ≡ true → k .ticket ≡ t → k .aborts ≡ 0 → k .zombie ≡ false → k .reads ≡ none → k .writes ≡ none
     → CoreAgrees k (record { going = true; order = t; tried = []; hits = 0; heard = 0 })
 unfolding wrote touched any
 agrees-begun k t p q n z r w =
     record {
       same-going = p;
       same-order = λ g. q;
-      reads-fit = rw r (omega arith);
-      writes-fit = rw w (omega arith);
-      same-writes = λ d. rw w (has-zero d);
-      same-data = λ d. rw (r, w, has-zero d) refl;
+      reads-fit = rw r none-fits;
+      writes-fit = rw w none-fits;
+      same-writes = λ d. rw w (has-none d);
+      same-data = λ d. rw (r, w, has-none d) refl;
       same-hits = λ g. n;
       same-heard = λ g. rw z refl;
       zombie-empty = λ g. refl;

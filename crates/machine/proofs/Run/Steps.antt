@@ -9,10 +9,11 @@ use native.Mathlib.Omega.{arith}
 use lib.Dec.{ltb}
 use lib.ListN.{replicate, getD-replicate, List·getD-eq-default}
 use borrow.Author.Tests.{ltb-true, ltb-false, lt-ltb}
+use Rattle.objset.proofs.Laws.{none-zero}
 use Rattle.core.specs.declared.Core.{Core}
 use Rattle.core.specs.declared.Answer.{Answer}
 use Rattle.machine.specs.declared.Machine.{Machine}
-use Rattle.core.specs.Life.{onlyLooks, conflicting}
+use Rattle.core.specs.Life.{isReadOnly, conflicting}
 use Rattle.machine.specs.Answers.{kind, values}
 use Rattle.core.specs.Parts.{noCore, blankCore}
 use Rattle.machine.specs.Record.{coreAt, machineOf, sizesInRange}
@@ -71,7 +72,7 @@ module _ {o : ℕ} {w : World} {h : List Deed} (a : Agree o w h) (c : ℕ) (goin
           absurd (true≢false (sym (a .each-core b .same-going ∙ there)
           ∙ ap (λ (k : Core). k .active) (List·getD-eq-default (m .core) noCore (omega (arith, a .cores-long, ltb-false b 16 q)))))
 
-  finds-waits : (e : ℕ) → Acting h c → onlyLooks (coreAt m c) ≡ false → First m c e → Waiting h c e
+  finds-waits : (e : ℕ) → Acting h c → isReadOnly (coreAt m c) ≡ false → First m c e → Waiting h c e
   finds-waits e acting wrote f =
       let found = found-ahead e (f .passes) in
       record {
@@ -131,7 +132,7 @@ agree-fresh cores objects range =
     go : (c : ℕ) (q : Bool) → ltb c 16 ≡ q → CoreAgrees (coreAt (machineOf cores objects) c) (view [] c)
     go c true q = rw (getD-replicate 16 c blankCore noCore (ltb-true c 16 q)) (agrees-idle blankCore (view [] c) refl refl refl refl (refl, refl))
     go c false q =
-        rw (List·getD-eq-default (replicate 16 blankCore) noCore (ltb-false c 16 q)) (agrees-idle noCore (view [] c) refl refl refl refl (refl, refl))
+        rw (List·getD-eq-default (replicate 16 blankCore) noCore (ltb-false c 16 q)) (agrees-idle noCore (view [] c) refl refl (sym none-zero) (sym none-zero) (refl, refl))
 
 -- a run after an accepted setup agrees with the words all the way, and is orderly
 pub run-agrees : {o : ℕ} {w₀ w : World} {es : List Event} → Agree o w₀ [] → Run w₀ es w → Agree o w (deeds es) × Orderly o (deeds es)

@@ -1,18 +1,18 @@
 -- A transaction is struck at most as often as earlier ones were in progress at its begin: whoever strikes it is earlier and ends,
 -- and nobody that begins later is earlier.
 use mathlib.Core.Path.{_≡_, refl, ap₂}
-use mathlib.Core.Bool.{Bool, true, false, cond, _&&_}
+use mathlib.Core.Bool.{Bool, true, false, cond, not, _&&_}
 use mathlib.Core.List.{List, [], _∷_}
 use Prim.Native.Nat.{ℕ, _+_, _≤_, _<_}
 use native.Mathlib.Omega.{arith}
-use lib.Dec.{ltb}
-use borrow.Author.Tests.{ltb-true, lt-ltb, eq-eqb}
+use lib.Dec.{eqb, ltb}
+use borrow.Author.Tests.{ltb-true, lt-ltb, eq-eqb, not-true}
 use Rattle.objset.proofs.Laws.{both-left, both-right}
 use Rattle.machine.specs.Record.{tally}
-use Rattle.machine.specs.Words.{Deed, begins, reads, writes, waits, commits, told, gives, other, beginsOn, endsOn, inProgress, births, born, ahead, strikes, struck}
+use Rattle.machine.specs.Words.{Deed, begins, reads, writes, waits, commits, told, gives, other, beginsOn, endsOn, inProgress, births, born, ahead, crosses, attempt, strikes, struck}
 use Rattle.machine.proofs.Run.Orderly.{Orderly, Allowed}
 use Rattle.machine.proofs.Tally.{tally-more, tally-less}
-use Rattle.machine.proofs.Run.Births.{clash, Going, begun, kept, going, ended, born-begun, born-kept, born-below, older-kept}
+use Rattle.machine.proofs.Run.Births.{clash, Going, begun, kept, going, going-on, ended, born-begun, born-kept, born-below, older-kept}
 
 -- ---- who strikes
 
@@ -98,5 +98,27 @@ struck-and-earlier o (x ∷ h) c a p = go (going x h c p) (struck-and-earlier o 
             omega (arith, tally-less 16 (before (born h c) (x ∷ h)) (before (born h c) h) (k .by) (k .is-core) gone here (λ b l. fewer b))
         by-strike false s r = omega (arith, tally-more 16 (before (born h c) (x ∷ h)) (before (born h c) h) (λ b l. fewer b))
 
-pub struck-at-most : (o : ℕ) (h : List Deed) (c : ℕ) → Orderly o h → inProgress h c ≡ true → struck h c ≤ ahead h c
-struck-at-most o h c a p = omega (arith, struck-and-earlier o h c a p)
+-- whom a deed strikes is in progress after it
+struck-goes-on : (x : Deed) (h : List Deed) (c : ℕ) → strikes x h c ≡ true → inProgress (x ∷ h) c ≡ true
+struck-goes-on (begins b) h c e = clash e refl
+struck-goes-on (reads b d v) h c e = clash e refl
+struck-goes-on (writes b d v) h c e = clash e refl
+struck-goes-on (waits b d) h c e = clash e refl
+struck-goes-on (commits b n) h c e =
+    let other = both-left (not (eqb b c) && inProgress h c) (crosses (attempt h b) (attempt h c)) e in
+    going-on (commits b n) h c (not-true (eqb b c) (both-left (not (eqb b c)) (inProgress h c) other))
+    (both-right (not (eqb b c)) (inProgress h c) other)
+struck-goes-on (told b) h c e = clash e refl
+struck-goes-on (gives b) h c e = clash e refl
+struck-goes-on other h c e = clash e refl
+
+-- after every deed: the bound above holds at a strike, and between strikes neither number changes
+pub struck-at-most-ahead : (o : ℕ) (h : List Deed) (c : ℕ) → Orderly o h → struck h c ≤ ahead h c
+unfolding struck ahead
+struck-at-most-ahead o [] c a = omega arith
+struck-at-most-ahead o (x ∷ h) c a = go (beginsOn x c) refl (strikes x h c) refl (struck-at-most-ahead o h c (a .1))
+  where
+    go : (b : Bool) → beginsOn x c ≡ b → (s : Bool) → strikes x h c ≡ s → struck h c ≤ ahead h c → struck (x ∷ h) c ≤ ahead (x ∷ h) c
+    go true b s t r = rw (struck-begun x h c b) (omega arith)
+    go false b true t r = omega (arith, struck-and-earlier o (x ∷ h) c a (struck-goes-on x h c t))
+    go false b false t r = rw (struck-kept x h c b, ahead-kept x h c b, t) (omega (arith, r))

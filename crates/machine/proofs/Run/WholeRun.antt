@@ -19,7 +19,7 @@ use Rattle.machine.proofs.Run.Serially.{serially}
 use Rattle.machine.specs.Inside.{WellFormedWorld}
 use Rattle.machine.proofs.Sound.Keeps.{keeps-good, setup-good}
 use Rattle.machine.proofs.Run.Agreement.{Agree}
-use Rattle.machine.proofs.Run.Looking.{looker-through}
+use Rattle.machine.proofs.Run.ReadOnly.{readonly-through}
 use Rattle.machine.proofs.Run.Steps.{agree-fresh, run-agrees}
 
 -- ---- a run cut in two
@@ -101,13 +101,13 @@ whole-run cores objects committed pending ready {es} {w} run =
     record {
       by-the-rule = by-the-rule run;
       served = served objects (deeds es) o;
-      looking =
+      read-only =
           record {
-            looker-commits =
+            readonly-commits =
                 λ late early c x p.
                 let r = run-through late (record { call = Commit c; answer = x } ∷ early) run p in
                 let l = last-call (r .1) (record { call = Commit c; answer = x }) early refl in
-                looker-through (run-good (setup-good cores objects committed pending ready) (l .1)) (run-agrees a (l .1)) c (l .2);
+                readonly-through (run-good (setup-good cores objects committed pending ready) (l .1)) (run-agrees a (l .1)) c (l .2);
           };
       serially = rw same (serially objects (deeds es) (a .objects-few) o);
       same-cards =

@@ -26,7 +26,7 @@ use Rattle.core.proofs.Kept.{idle-formed, over-tidy, struck-keeps, struck-abort
 use Rattle.machine.proofs.Entries.{cleared-at, cleared-long, changed-at, changed-long}
 use Rattle.machine.proofs.Sound.OneCore.{Whole}
 
--- the transaction of core c has no contender or only looks, so each one that its commit strikes has a later ticket
+-- the transaction of core c has no contender or is read-only, so each one that its commit strikes has a later ticket
 pub struck-later : (m : Machine) (c e : ℕ) → Standing m → c < 16 → e < 16 → (e ≡ c → ⊥) → mustWait m c ≡ false → coreAt m c .active ≡ true
     → isStruck (coreAt m c .writes) (coreAt m e) ≡ true → ltb (coreAt m c .ticket) (coreAt m e .ticket) ≡ true
 struck-later m c e s lc le d free on hit =

@@ -86,7 +86,7 @@ module _ (w : World) (c : ℕ) (g : Whole (w .machine)) (here : c < w .machine .
   unfolding finished
   finished-whole some off =
       let clear = tidy .idle-clear off in
-      subst (λ (x : Core). Whole (putCore m c x)) (sym (idle-list k (without (k .jobs) (running k)) (k .count - 1) off clear))
+      subst (λ (x : Core). Whole (putCore m c x)) (sym (idle-list k (without (k .jobs) (running k)) (k .count - 1) formed off clear))
       (put-whole m c here g (idle (without (k .jobs) (running k)) (k .count - 1))
       (finished-formed (m .objects) k tidy formed (running k) listed)
       (finished-tidy (m .objects) k tidy formed (running k) listed) (sym off) (sym (clear .no-ticket)) (sym (clear .no-aborts)))

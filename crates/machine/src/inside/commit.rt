@@ -7,29 +7,28 @@ use crate::inside::calls::find_core;
 use core::CORES;
 use core::Core;
 use core::calls::NOBODY;
-use core::calls::settle;
+use core::inside::calls::settle;
 use core::inside::transaction::abort;
 use core::inside::transaction::holds_back;
 use core::inside::transaction::is_struck;
-use core::inside::transaction::only_looks;
+use core::inside::transaction::read_only;
 use objset::OBJECTS;
 ghost use mathlib.Core.Path.{_≡_};
 ghost use mathlib.Core.Bool.{true, cond};
-ghost use lib.Dec.{eqb};
 ghost use Prim.Native.Nat.{ℕ, _+_, _≤_, _<_};
 ghost use lib.ListN.{length, getD};
-ghost use Rattle.objset.specs.Objset.{mostObjects, has};
+ghost use Rattle.objset.specs.Objset.{mostObjects, has, isEmpty};
 ghost use Rattle.core.specs.Parts.{mostCores, noCore};
 ghost use Rattle.machine.specs.Inside.{SoundWorld};
 ghost use Rattle.machine.specs.Rule.{lent, left, changed, commit as commitRule};
 ghost use Rattle.machine.specs.OneCore.{firstHolding, struckAll};
 
 // The core that core k's transaction waits for at its commit: of those that hold it back the one of smallest ticket; NOBODY where none does,
-// or where it only looks. `below` is the ticket to beat. The loop goes over all cores: with a constant bound the compiler makes no copy of the record here.
+// or where it is read-only. `below` is the ticket to beat. The loop goes over all cores: with a constant bound the compiler makes no copy of the record here.
 pub fn ahead_of(m: Machine, k: Core) -> u8
     ensures { λ r. ⌜ r ≡ firstHolding (m .core) k ⌝ }
 {
-    if only_looks(k) {
+    if read_only(k) {
         return NOBODY;
     }
     let mut ahead: u8 = NOBODY;
@@ -63,22 +62,19 @@ pub fn write_back(
     ensures raised { λ r. ⌜ now (versions .exit) ≡ changed ws (λ d v. v + 1) 0 (now (versions .entry)) ⌝ }
 {
     let mut rest = ws;
-    let mut d = 0;
-    while rest != 0 {
-        if rest % 2 == 1 {
-            committed[d] = pending[base + d];
-            versions[d] = versions[d] + 1;
-        }
-        rest = rest / 2;
-        d += 1;
+    while !objset::is_empty(rest) {
+        let d = objset::first(rest);
+        committed[d] = pending[base + d];
+        versions[d] = versions[d] + 1;
+        rest = objset::remove(rest, d);
     }
 }
 
 // How many cores a commit of the write set ws looks at: none where it is empty.
 pub fn reach_of(ws: u64) -> usize
-    ensures { λ r. ⌜ r ≡ cond (eqb ws 0) 0 mostCores ⌝ }
+    ensures { λ r. ⌜ r ≡ cond (isEmpty ws) 0 mostCores ⌝ }
 {
-    if ws == 0 { 0 } else { CORES }
+    if objset::is_empty(ws) { 0 } else { CORES }
 }
 
 // The cores after a commit of the write set ws, whose own core has no transaction any more: each transaction that ws strikes is aborted.
@@ -99,7 +95,7 @@ fn strike(mut cores: [Core; CORES], ws: u64) -> [Core; CORES]
 
 // Commits the transaction of a core. It is refused where there is no such core (4) or no transaction (9). A marked
 // transaction is told that it was set back, and loses its mark and nothing more. One that conflicts with a smaller ticket
-// waits, unless it only looks. Any other goes through. A refusal or a wait leaves the record and both tables as they are, and the
+// waits, unless it is read-only. Any other goes through. A refusal or a wait leaves the record and both tables as they are, and the
 // pending table keeps every word.
 pub fn commit(mut m: Machine, core: u32, committed: &mut [u32], pending: &mut [u32]) -> Outcome
     requires { ⌜ SoundWorld (lent m (now committed) (now pending)) ⌝ }

@@ -1,7 +1,6 @@
 -- `core::Core::blank` meets its contract.
 use mathlib.Core.Path.{refl}
 use borrow.Author.Needs.{needs}
-use Rattle.objset.proofs.Laws.{none-zero}
 use Rattle.core.proofs.Core.blank.Statement.{statement}
 use Rattle.core.proofs.Core.blank.Tie as tie
 
@@ -12,7 +11,7 @@ empty-requires-2 : tie.Need-empty-requires-2
 empty-requires-2 c κs = search needs
 
 returns : tie.Need-returns
-returns c = rw (c .before .empty .ensures, c .empty2 .ensures, none-zero) refl
+returns c = rw (c .before .empty .ensures, c .empty2 .ensures) refl
 
 pub blank-spec : {M : Type 1} → statement M
 blank-spec = tie.close (tie.spec empty-requires empty-requires-2 returns)

@@ -1,7 +1,6 @@
 -- `core::inside::transaction::begin` meets its contract.
 use mathlib.Core.Path.{refl}
 use borrow.Author.Needs.{needs}
-use Rattle.objset.proofs.Laws.{none-zero}
 use Rattle.core.proofs.inside.transaction.begin.Statement.{statement}
 use Rattle.core.proofs.inside.transaction.begin.Tie as tie
 
@@ -15,7 +14,7 @@ empty-requires-2 : tie.Need-empty-requires-2
 empty-requires-2 c κs = search needs
 
 returns : tie.Need-returns
-returns c = rw (c .before .before .running-of .ensures, c .before .empty .ensures, c .empty2 .ensures, none-zero) refl
+returns c = rw (c .before .before .running-of .ensures, c .before .empty .ensures, c .empty2 .ensures) refl
 
 pub begin-spec : {M : Type 1} → statement M
 begin-spec = tie.close (tie.spec running-of-requires empty-requires empty-requires-2 returns)

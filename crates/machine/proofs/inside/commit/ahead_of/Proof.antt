@@ -1,4 +1,4 @@
--- `machine::inside::commit::ahead_of` meets its contract: nobody for one that only looks; else, after the turn of core e, the first of the cores
+-- `machine::inside::commit::ahead_of` meets its contract: nobody for a read-only one; else, after the turn of core e, the first of the cores
 -- below it.
 use mathlib.Core.Path.{sym, subst₂, _∙_}
 use mathlib.Core.Logic.{⊎-elim}
@@ -15,11 +15,11 @@ Inv-loop k m ahead₀ below₀ e₀ ahead below e = (e ≤ 16) × Looked (m .cor
 abbrev μ-loop : tie.MeasureT-loop
 μ-loop k m ahead₀ below₀ e₀ ahead below e = 16 - e
 
-only-looks-requires : tie.Need-only-looks-requires Inv-loop μ-loop
-only-looks-requires c κs = search needs
+read-only-requires : tie.Need-read-only-requires Inv-loop μ-loop
+read-only-requires c κs = search needs
 
 returns : tie.Need-returns Inv-loop μ-loop
-returns c = looked-at-nobody (c .before .before .args .t1 .core) (c .before .before .args .k) (sym (c .before .only-looks .ensures) ∙ c .if1 .taken)
+returns c = looked-at-nobody (c .before .before .args .t1 .core) (c .before .before .args .k) (sym (c .before .read-only .ensures) ∙ c .if1 .taken)
 
 loop-holds : tie.Need-loop-holds Inv-loop μ-loop
 loop-holds c = (omega arith, looked-none (c .before .before .args .t1 .core) (c .before .before .args .k))
@@ -61,7 +61,7 @@ loop-again c =
 returns-2 : tie.Need-returns-2 Inv-loop μ-loop
 returns-2 c =
     let tested = c .before .before in
-    looked-all _ _ _ _ _ (sym (tested .before .only-looks .ensures) ∙ tested .if1 .left) (omega (arith, c .loop-test .left, c .before .loop .inv .0))
+    looked-all _ _ _ _ _ (sym (tested .before .read-only .ensures) ∙ tested .if1 .left) (omega (arith, c .loop-test .left, c .before .loop .inv .0))
     (c .before .loop .inv .1)
 
 pub ahead-of-spec : {M : Type 1} → statement M
@@ -70,7 +70,7 @@ ahead-of-spec =
     (tie.spec
     Inv-loop
     μ-loop
-    only-looks-requires
+    read-only-requires
     returns
     loop-holds
     cast-other

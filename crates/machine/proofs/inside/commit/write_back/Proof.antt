@@ -1,123 +1,126 @@
 -- `machine::inside::commit::write_back` meets its contract.
-use mathlib.Core.Path.{_≡_, refl, sym, _∙_}
-use mathlib.Core.Logic.{⊎-elim}
-use Prim.Native.Nat.{ℕ, _+_, _<_}
+use mathlib.Core.Path.{_≡_, refl, sym, ap, _∙_}
+use mathlib.Core.Bool.{true, false}
+use Prim.Native.Nat.{_+_, _-_, _<_}
 use native.Mathlib.Omega.{arith}
 use lib.ListN.{length, getD}
-use mathlib.Core.Bool.{Bool, true, false, true≢false}
-use lib.Dec.{ltb}
-use borrow.Author.Tests.{ltb-true, ltb-false}
-use Rattle.objset.specs.Objset.{has}
-use Rattle.machine.specs.Rule.{changed}
-use Rattle.machine.proofs.Front.{Stands}
-use Rattle.machine.proofs.CommitLaws.{changed-next, changed-stored, changed-kept, changed-done}
-use Rattle.machine.proofs.SetLoop.{Rest, rest-all, rest-here, rest-not-here, rest-next, rest-place, rest-none}
+use borrow.Author.Tests.{not-true, not-false}
+use Rattle.objset.specs.Objset.{has, isEmpty, firstObject, removed}
+use Rattle.objset.proofs.Laws.{member-bound, first-member, first-next}
+use Rattle.machine.proofs.SetLoop.{Left, left-all, left-next, Turned, turned-none, turned-next, turned-all}
 use borrow.Author.Needs.{needs}
 use Rattle.machine.proofs.inside.commit.write_back.Statement.{statement}
 use Rattle.machine.proofs.inside.commit.write_back.Tie as tie
 
 abbrev Inv-loop : tie.InvT-loop
-Inv-loop ws base committed₀ pending versions₀ rest₀ d₀ committed versions rest d =
-    Rest ws d rest
-    × (Stands d (changed ws (λ e v. getD pending (base + e) 0) 0 committed₀) committed₀ committed
-    × Stands d (changed ws (λ e v. v + 1) 0 versions₀) versions₀ versions)
+Inv-loop ws base committed₀ pending versions₀ rest₀ committed versions rest =
+    Left ws rest
+    × Turned ws (λ e v. getD pending (base + e) 0) committed₀ rest committed
+    × Turned ws (λ e v. v + 1) versions₀ rest versions
 
 abbrev μ-loop : tie.MeasureT-loop
-μ-loop ws base committed₀ pending versions₀ rest₀ d₀ committed versions rest d = rest
+μ-loop ws base committed₀ pending versions₀ rest₀ committed versions rest = 64 - firstObject rest
 
--- object d has a place where something of the set is left
-there : (c : tie.In-loop Inv-loop μ-loop) → c .before .loop .d < 64
-there c = rest-place _ _ _ (c .before .loop .inv .0) (c .loop-test .taken)
+-- the first object of what is left: it is in the set, and has a place in both lists
+module _ (c : tie.After-first Inv-loop μ-loop) where
+  abbrev loop : tie.At-loop Inv-loop μ-loop
+  loop = c .before .before .before
 
-place : (c : tie.Then1 Inv-loop μ-loop) → c .before .before .loop .d < 64
-place c = there (c .before)
+  abbrev start : tie.Start Inv-loop μ-loop
+  start = loop .before .before .before
 
--- and it is in the set where the last digit of what is left is 1
-here : (c : tie.Then1 Inv-loop μ-loop) → has (c .before .before .before .args .ws) (c .before .before .loop .d) ≡ true
-here c = rest-here _ _ _ (c .before .before .loop .inv .0) (c .if1 .taken)
+  filled : isEmpty (loop .loop .rest) ≡ false
+  filled = sym (c .before .before .is-empty .ensures) ∙ not-true (c .before .before .is-empty .result) (c .before .if1 .taken)
 
-member : (c : tie.Then1 Inv-loop μ-loop) → c .before .before .loop .d < length (c .before .before .before .args .committed .now)
-member c = c .before .before .before .pre .1 .1 .0 _ (place c) (here c)
+  waits : has (loop .loop .rest) (c .first .result) ≡ true
+  waits = ap (has (loop .loop .rest)) (c .first .ensures) ∙ first-member (loop .loop .rest) filled
 
-long : (c : tie.Start Inv-loop μ-loop) → length (c .args .versions .now) ≡ 64
-long c = c .pre .1 .0
+  written : has (start .args .ws) (c .first .result) ≡ true
+  written = loop .loop .inv .0 .within (c .first .result) waits
 
--- at the loop's end every object of the set had its turn
-past : (c : tie.After-loop Inv-loop μ-loop) (d : ℕ) → has (c .before .before .args .ws) d ≡ true → d < c .before .loop .d
-past c d p = go (ltb d (c .before .loop .d)) refl
-  where
-    go : (q : Bool) → ltb d (c .before .loop .d) ≡ q → d < c .before .loop .d
-    go true t = ltb-true _ _ t
-    go false t = absurd (true≢false (sym p ∙ rest-none _ _ _ (c .before .loop .inv .0) (c .loop-test .left) d (ltb-false _ _ t)))
+  place : c .first .result < 64
+  place = member-bound (loop .loop .rest) (c .first .result) (loop .loop .inv .0 .fits) waits
+
+  member : c .first .result < length (start .args .committed .now)
+  member = start .pre .1 .1 .0 (c .first .result) place written
+
+  versioned : c .first .result < length (start .args .versions .now)
+  versioned = omega (arith, place, start .pre .1 .0)
 
 loop-holds : tie.Need-loop-holds Inv-loop μ-loop
-loop-holds c = (rest-all _ (search needs), ((refl, refl), (refl, refl)))
+loop-holds c = (left-all _ (search needs), turned-none _ _ _, turned-none _ _ _)
+
+is-empty-requires : tie.Need-is-empty-requires Inv-loop μ-loop
+is-empty-requires c κs = search needs
+
+first-requires : tie.Need-first-requires Inv-loop μ-loop
+first-requires c κs = search needs
 
 add-committed : tie.Need-add-committed Inv-loop μ-loop
-add-committed c = record { fits = omega (arith, member c, c .before .before .before .pre .0) }
+add-committed c = record { fits = omega (arith, member c, start c .pre .0) }
 
 mul-committed : tie.Need-mul-committed Inv-loop μ-loop
-mul-committed c = record { fits = omega (arith, member c, c .before .before .before .pre .0) }
+mul-committed c = record { fits = omega (arith, member c, start c .pre .0) }
 
 shared-slice-read-committed : tie.Need-shared-slice-read-committed Inv-loop μ-loop
-shared-slice-read-committed c = omega (arith, member (c .before), c .before .before .before .before .pre .0)
+shared-slice-read-committed c = omega (arith, member (c .before), start (c .before) .pre .0)
 
 mul-committed-2 : tie.Need-mul-committed-2 Inv-loop μ-loop
-mul-committed-2 c = search needs
+mul-committed-2 c = record { fits = omega (arith, place (c .before)) }
 
 slice-write-committed : tie.Need-slice-write-committed Inv-loop μ-loop
-slice-write-committed c = omega (arith, member (c .before), c .before .before .before .loop .inv .1 .0 .0)
+slice-write-committed c = omega (arith, member (c .before), loop (c .before) .loop .inv .1 .same-length)
 
 mul-versions : tie.Need-mul-versions Inv-loop μ-loop
-mul-versions c = search needs
+mul-versions c = record { fits = omega (arith, place (c .before)) }
 
 element-copy-out-versions : tie.Need-element-copy-out-versions Inv-loop μ-loop
 element-copy-out-versions c = place (c .before)
 
 add-versions : tie.Need-add-versions Inv-loop μ-loop
-add-versions c = let start = c .before .before .before .before .before in let at = c .before .before .before .before .loop in record { fits = omega (arith, changed-next (start .args .ws) (λ d v. v + 1) (start .args .versions .now) (at .d) (at .versions) (at .inv .1 .1) (omega (arith, place (c .before .before), long start)), start .pre .1 .1 .1 (at .d) (member (c .before .before)) (here (c .before .before))) }
+add-versions c =
+    let at = c .before .before in
+    let d = at .first .result in
+    record {
+      fits = omega (arith, loop at .loop .inv .2 .waiting d (versioned at) (waits at), start at .pre .1 .1 .1 d (member at) (written at));
+    }
 
 mul-versions-2 : tie.Need-mul-versions-2 Inv-loop μ-loop
-mul-versions-2 c = search needs
+mul-versions-2 c = record { fits = omega (arith, place (c .before .before)) }
 
 element-write-versions : tie.Need-element-write-versions Inv-loop μ-loop
 element-write-versions c = place (c .before .before)
 
-add-d : tie.Need-add-d Inv-loop μ-loop
-add-d c = record { fits = omega (arith, there (c .before)) }
+remove-requires : tie.Need-remove-requires Inv-loop μ-loop
+remove-requires c κs = search needs
 
 loop-less : tie.Need-loop-less Inv-loop μ-loop
-loop-less c = omega (arith, c .before .loop-test .taken)
+loop-less c =
+    let at = c .before .before .before in
+    let rest = loop at .loop .rest in
+    let out = c .remove .ensures ∙ ap (removed rest) (at .first .ensures) in
+    omega (arith, ap firstObject out, first-next rest (loop at .loop .inv .0 .fits) (filled at), place at, at .first .ensures)
 
 loop-again : tie.Need-loop-again Inv-loop μ-loop
 loop-again c =
-    let start = c .before .before .before in
-    let at = c .before .before .loop in
-    let moved : ℕ → ℕ → ℕ = λ d v. getD (start .args .pending .now) (start .args .base + d) 0 in (
-      rest-next _ _ _ (at .inv .0) (c .before .loop-test .taken),
-      ⊎-elim
-          (λ w.
-          let in-set = rest-here _ _ _ (at .inv .0) (w .0 .taken) in (
-            changed-stored (start .args .ws) moved (start .args .committed .now) (at .d) (at .committed) (at .inv .1 .0) _ (start .pre .1 .1 .0 _ (there (c .before)) in-set) in-set (w .3),
-            changed-stored (start .args .ws) (λ d v. v + 1) (start .args .versions .now) (at .d) (at .versions) (at .inv .1 .1) _ (omega (arith, there (c .before), long start)) in-set (w .4),
-          ))
-          (λ w.
-          let outside = rest-not-here _ _ _ (at .inv .0) (w .0 .left) in (
-            changed-kept (start .args .ws) moved (start .args .committed .now) (at .d) (at .committed) (at .inv .1 .0) _ outside (w .1),
-            changed-kept (start .args .ws) (λ d v. v + 1) (start .args .versions .now) (at .d) (at .versions) (at .inv .1 .1) _ outside (w .2),
-          ))
-          (c .if1 .came),
+    let at = c .before .before .before in
+    let turn = loop at .loop in
+    let d = at .first .result in
+    rw (c .remove .ensures) (
+      left-next _ (turn .rest) d (turn .inv .0),
+      turned-next _ _ _ (turn .rest) d (turn .committed) _ (turn .inv .0) (turn .inv .1) (member at) (waits at) refl,
+      turned-next _ _ _ (turn .rest) d (turn .versions) _ (turn .inv .0) (turn .inv .2) (versioned at) (waits at) refl,
     )
 
 same-length : tie.Need-same-length Inv-loop μ-loop
-same-length c = c .before .loop .inv .1 .0 .0
+same-length c = c .before .before .loop .inv .1 .same-length
 
 returns : tie.Need-returns Inv-loop μ-loop
 returns c =
-    let start = c .before .before in
-    let at = c .before .loop in (
-      changed-done (start .args .ws) _ (start .args .committed .now) (at .d) (at .committed) (at .inv .1 .0) (λ d l p. past c d p),
-      changed-done (start .args .ws) (λ d v. v + 1) (start .args .versions .now) (at .d) (at .versions) (at .inv .1 .1) (λ d l p. past c d p),
+    let at = c .before .before .loop in
+    let none = sym (c .before .is-empty .ensures) ∙ not-false (c .before .is-empty .result) (c .if1 .left) in (
+      turned-all _ _ _ (at .rest) (at .committed) (at .inv .0 .fits) none (at .inv .1),
+      turned-all _ _ _ (at .rest) (at .versions) (at .inv .0 .fits) none (at .inv .2),
     )
 
 pub write-back-spec : {M : Type 1} → statement M
@@ -127,6 +130,8 @@ write-back-spec =
     Inv-loop
     μ-loop
     loop-holds
+    is-empty-requires
+    first-requires
     add-committed
     mul-committed
     shared-slice-read-committed
@@ -137,7 +142,7 @@ write-back-spec =
     add-versions
     mul-versions-2
     element-write-versions
-    add-d
+    remove-requires
     loop-less
     loop-again
     same-length

@@ -1,12 +1,12 @@
--- `core::calls::release` meets its contract.
+-- `core::inside::calls::release` meets its contract.
 use mathlib.Core.Path.{sym, _∙_}
 use native.Mathlib.Omega.{arith}
 use borrow.Author.Tests.{le-leb, lt-leb, eq-eqb, ne-eqb}
 use Rattle.core.specs.Calls.{releaseOn}
 use Rattle.core.proofs.CallLaws.{skips, hits, none-holds, refused, accepted}
 use borrow.Author.Needs.{needs}
-use Rattle.core.proofs.calls.release.Statement.{statement}
-use Rattle.core.proofs.calls.release.Tie as tie
+use Rattle.core.proofs.inside.calls.release.Statement.{statement}
+use Rattle.core.proofs.inside.calls.release.Tie as tie
 
 leaving-requires : tie.Need-leaving-requires
 leaving-requires c κs = search needs

@@ -1,11 +1,11 @@
--- `core::calls::begin` meets its contract.
+-- `core::inside::calls::begin` meets its contract.
 use mathlib.Core.Path.{_∙_}
 use borrow.Author.Tests.{le-leb, lt-leb, eq-eqb, ne-eqb}
 use Rattle.core.specs.Calls.{beginOn}
 use Rattle.core.proofs.CallLaws.{skips, hits, none-holds, refused, accepted}
 use borrow.Author.Needs.{needs}
-use Rattle.core.proofs.calls.begin.Statement.{statement}
-use Rattle.core.proofs.calls.begin.Tie as tie
+use Rattle.core.proofs.inside.calls.begin.Statement.{statement}
+use Rattle.core.proofs.inside.calls.begin.Tie as tie
 
 leaving-requires : tie.Need-leaving-requires
 leaving-requires c κs = search needs

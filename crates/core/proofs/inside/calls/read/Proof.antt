@@ -1,10 +1,10 @@
--- `core::calls::read` meets its contract.
+-- `core::inside::calls::read` meets its contract.
 use mathlib.Core.Path.{sym, _∙_}
 use Rattle.core.specs.Calls.{readOn}
 use Rattle.core.proofs.CallLaws.{skips, hits, none-holds, refused, accepted}
 use borrow.Author.Needs.{needs}
-use Rattle.core.proofs.calls.read.Statement.{statement}
-use Rattle.core.proofs.calls.read.Tie as tie
+use Rattle.core.proofs.inside.calls.read.Statement.{statement}
+use Rattle.core.proofs.inside.calls.read.Tie as tie
 
 leaving-requires : tie.Need-leaving-requires
 leaving-requires c κs = search needs

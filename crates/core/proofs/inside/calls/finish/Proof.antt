@@ -1,4 +1,4 @@
--- `core::calls::finish` meets its contract.
+-- `core::inside::calls::finish` meets its contract.
 use mathlib.Core.Path.{_∙_}
 use native.Mathlib.Omega.{arith}
 use Prim.Native.Nat.{_<_}
@@ -7,8 +7,8 @@ use Rattle.core.specs.Calls.{finishOn}
 use Rattle.core.proofs.Jobs.{running-least, least-listed}
 use Rattle.core.proofs.CallLaws.{skips, hits, refused, finish-leaves}
 use borrow.Author.Needs.{needs}
-use Rattle.core.proofs.calls.finish.Statement.{statement}
-use Rattle.core.proofs.calls.finish.Tie as tie
+use Rattle.core.proofs.inside.calls.finish.Statement.{statement}
+use Rattle.core.proofs.inside.calls.finish.Tie as tie
 
 leaving-requires : tie.Need-leaving-requires
 leaving-requires c κs = search needs

@@ -1,12 +1,12 @@
--- `core::calls::give_up` meets its contract.
+-- `core::inside::calls::give_up` meets its contract.
 use mathlib.Core.Path.{refl, _∙_}
 use native.Mathlib.Omega.{arith}
 use Rattle.core.specs.Calls.{giveUpOn}
 use Rattle.core.proofs.TestLaws.{holds}
 use Rattle.core.proofs.CallLaws.{skips, hits, none-holds, refused, accepted}
 use borrow.Author.Needs.{needs}
-use Rattle.core.proofs.calls.give_up.Statement.{statement}
-use Rattle.core.proofs.calls.give_up.Tie as tie
+use Rattle.core.proofs.inside.calls.give_up.Statement.{statement}
+use Rattle.core.proofs.inside.calls.give_up.Tie as tie
 
 leaving-requires : tie.Need-leaving-requires
 leaving-requires c κs = search needs

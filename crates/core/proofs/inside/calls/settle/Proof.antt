@@ -1,4 +1,4 @@
--- `core::calls::settle` meets its contract.
+-- `core::inside::calls::settle` meets its contract.
 use mathlib.Core.Path.{_≡_, refl, sym, _∙_}
 use mathlib.Core.Bool.{true, false}
 use mathlib.Core.Logic.{⊎-elim}
@@ -6,8 +6,8 @@ use borrow.Author.Tests.{lt-ltb, le-ltb, not-true, not-false}
 use Rattle.core.specs.Calls.{commitOn}
 use Rattle.core.proofs.CallLaws.{known-settled}
 use borrow.Author.Needs.{needs}
-use Rattle.core.proofs.calls.settle.Statement.{statement}
-use Rattle.core.proofs.calls.settle.Tie as tie
+use Rattle.core.proofs.inside.calls.settle.Statement.{statement}
+use Rattle.core.proofs.inside.calls.settle.Tie as tie
 
 staying-requires : tie.Need-staying-requires
 staying-requires c κs = search needs
@@ -15,8 +15,8 @@ staying-requires c κs = search needs
 returns : tie.Need-returns
 returns c = c .staying .ensures ∙ known-settled _ _ _ (c .before .if1 .taken)
 
-only-looks-requires : tie.Need-only-looks-requires
-only-looks-requires c κs = search needs
+read-only-requires : tie.Need-read-only-requires
+read-only-requires c κs = search needs
 
 staying-requires-2 : tie.Need-staying-requires-2
 staying-requires-2 c κs = search needs
@@ -45,7 +45,7 @@ opened c =
     let start = c .before .before .before in
     ⊎-elim
     (λ w. (not-false (start .args .k .active) (w .2 .left), w .3 .left))
-    (λ w. let wrote = sym (c .before .only-looks .ensures) ∙ w .left in (start .pre .written-active wrote, start .pre .written-unmarked wrote))
+    (λ w. let wrote = sym (c .before .read-only .ensures) ∙ w .left in (start .pre .written-active wrote, start .pre .written-unmarked wrote))
     (c .if2 .came)
 
 staying-requires-4 : tie.Need-staying-requires-4
@@ -72,7 +72,7 @@ settle-spec =
     (tie.spec
     staying-requires
     returns
-    only-looks-requires
+    read-only-requires
     staying-requires-2
     returns-2
     tell-requires

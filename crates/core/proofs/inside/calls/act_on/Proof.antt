@@ -1,10 +1,10 @@
--- `core::calls::act_on` meets its contract.
+-- `core::inside::calls::act_on` meets its contract.
 use mathlib.Core.Path.{_∙_}
 use Rattle.core.specs.Calls.{actOn, taken}
 use Rattle.core.proofs.CallLaws.{accepted, known-before}
 use borrow.Author.Needs.{needs}
-use Rattle.core.proofs.calls.act_on.Statement.{statement}
-use Rattle.core.proofs.calls.act_on.Tie as tie
+use Rattle.core.proofs.inside.calls.act_on.Statement.{statement}
+use Rattle.core.proofs.inside.calls.act_on.Tie as tie
 
 leaving-requires : tie.Need-leaving-requires
 leaving-requires c κs = search needs

@@ -1,10 +1,10 @@
--- `core::calls::write` meets its contract.
+-- `core::inside::calls::write` meets its contract.
 use mathlib.Core.Path.{_∙_}
 use Rattle.core.specs.Calls.{writeOn}
 use Rattle.core.proofs.CallLaws.{skips, hits, none-holds, refused, accepted}
 use borrow.Author.Needs.{needs}
-use Rattle.core.proofs.calls.write.Statement.{statement}
-use Rattle.core.proofs.calls.write.Tie as tie
+use Rattle.core.proofs.inside.calls.write.Statement.{statement}
+use Rattle.core.proofs.inside.calls.write.Tie as tie
 
 leaving-requires : tie.Need-leaving-requires
 leaving-requires c κs = search needs
