@@ -2,23 +2,22 @@
 use mathlib.Core.Path.{_≡_, refl, sym, ap, _∙_}
 use mathlib.Core.Bool.{Bool, true, false, cond}
 use mathlib.Core.List.{List, [], _∷_, _++_}
-use Prim.Native.Nat.{ℕ, suc, _+_, _-_, _*_, _/_, _≤_, _<_}
+use Prim.Native.Nat.{ℕ, zero, suc, _+_, _-_, _*_, _/_, _≤_, _<_}
 use native.Mathlib.Omega.{arith}
 use lib.ListN.{length, take, drop, set, getD, replicate}
 use lib.Seq.{length-take-le, take-suc, take-at, take-append-seam, drop-append-add, drop-drop, sets-eq}
 use borrow.Author.Tests.{ltb-false}
 use Rattle.taskset.specs.declared.Level.{Level}
 use Rattle.taskset.specs.declared.Task.{Task}
-use Rattle.taskset.specs.declared.TaskSet.{TaskSet}
 use Rattle.taskset.specs.declared.Levels.{Levels}
-use Rattle.taskset.specs.Tasks.{mostTasks, isTaskSet, packed, standing}
+use Rattle.taskset.specs.Tasks.{mostTasks, isTaskSet}
 use Rattle.taskset.specs.Levels.{noLevel, sideBySide, levelsOf, levelled, notLevelled, levelsGiven}
 use Rattle.taskset.proofs.LevelList.{levels-long}
 use Rattle.sheet.specs.Sheet.{sheetTasks}
-use Rattle.sheet.proofs.Laws.{standing-sheet}
+use Rattle.sheet.proofs.Laws.{sheet-levels}
 use Rattle.sheet.proofs.Gathered.{sheet-few, sheet-set}
 use Rattle.entry.specs.Fitting.{wholeOrNone, outputAfter}
-use Rattle.entry.specs.Words.{levelWords, sheetWords}
+use Rattle.entry.specs.Words.{levelWords, sheetWords, levelAt, RightWords}
 use Rattle.entry.proofs.Fits.{refused, whole, output-after}
 
 pub words-long : (ls : List Level) → length (levelWords ls) ≡ 3 * length ls
@@ -33,6 +32,17 @@ words-then : (ls : List Level) (l : Level) → levelWords (ls ++ (l ∷ [])) ≡
 unfolding levelWords
 words-then [] l = refl
 words-then (x ∷ ls) l = ap (λ (r : List ℕ). x .number ∷ x .task ∷ x .transaction ∷ r) (words-then ls l)
+
+-- the words at a place are those of the task there
+words-at : (ls : List Level) (rest : List ℕ) (i : ℕ) → i < length ls → levelAt (levelWords ls ++ rest) i ≡ getD ls i noLevel
+unfolding levelWords
+words-at [] rest i h = absurd (omega (arith, h))
+words-at (l ∷ ls) rest zero h = refl
+words-at (l ∷ ls) rest (suc i) h =
+    let one : 3 * suc i ≡ suc (suc (suc (3 * i))) = omega arith in
+    let two : 3 * suc i + 1 ≡ suc (suc (suc (3 * i + 1))) = omega arith in
+    let three : 3 * suc i + 2 ≡ suc (suc (suc (3 * i + 2))) = omega arith in
+    rw (three, two, one) (words-at ls rest i (omega (arith, h)))
 
 -- ---- where the loop stands: the words of the first i tasks are put, and those past them are as they were
 
@@ -100,9 +110,9 @@ no-levels : levelWords [] ≡ []
 unfolding levelWords
 no-levels = refl
 
-pub sheet-given : (bytes : List ℕ) (set : TaskSet) (given : Levels) → set ≡ packed (sheetTasks bytes) → given ≡ levelsGiven (standing set) → Given bytes given
+pub sheet-given : (bytes : List ℕ) (given : Levels) → given ≡ levelsGiven (sheetTasks bytes) → Given bytes given
 unfolding levelsGiven levelled notLevelled sheetWords
-sheet-given bytes set given read worked = go (isTaskSet ts) refl
+sheet-given bytes given worked = go (isTaskSet ts) refl
   where
     ts : List Task
     ts = sheetTasks bytes
@@ -110,18 +120,15 @@ sheet-given bytes set given read worked = go (isTaskSet ts) refl
     out : Bool → Levels
     out b = cond b (levelled (levelsOf ts)) notLevelled
 
-    of-tasks : given ≡ out (isTaskSet ts)
-    of-tasks = worked ∙ ap levelsGiven (ap standing read ∙ standing-sheet bytes)
-
     go : (b : Bool) → isTaskSet ts ≡ b → Given bytes given
     go true is =
-        rw (of-tasks ∙ ap out is)
+        rw (worked ∙ ap out is)
         record {
           few = omega (arith, levels-long ts, sheet-few bytes);
           words = ap levelWords (take-append-seam (levelsOf ts) (replicate (mostTasks - length (levelsOf ts)) noLevel));
           long = words-long (levelsOf ts);
         }
-    go false not = rw (of-tasks ∙ ap out not) record { few = omega arith; words = no-levels ∙ sym nothing; long = ap length nothing }
+    go false not = rw (worked ∙ ap out not) record { few = omega arith; words = no-levels ∙ sym nothing; long = ap length nothing }
       where
         empty : ts ≡ []
         empty = none ts (ltb-false 0 (length ts) (sym (sheet-set bytes) ∙ not))
@@ -144,4 +151,15 @@ module _ (bytes words : List ℕ) (given : Levels) (g : Given bytes given) where
       let all = whole (sheetWords bytes) words (omega (arith, h, g .long)) in (
         omega (arith, ap length all, g .long),
         put ∙ rw (g .words, sym (g .long)) (sym (output-after (sheetWords bytes) words (sheetWords bytes) all)),
+      )
+
+  -- and these are the levels of the sheet's tasks as paper 2 says them
+  pub right-put : {after : List ℕ} → after ≡ levelWords (take (given .count) (given .list)) ++ drop (3 * given .count) words
+      → RightWords (sheetTasks bytes) (given .count) after
+  unfolding sheetWords
+  right-put {after} put _ =
+      let ts = sheetTasks bytes in (
+        omega (arith, g .long, words-long (levelsOf ts), levels-long ts),
+        sheet-levels bytes (levelAt after) (λ i l. ap (λ (xs : List ℕ). levelAt xs i) (put ∙ ap (λ (xs : List ℕ). xs ++ drop (3 * given .count) words) (g .words))
+            ∙ words-at (levelsOf ts) (drop (3 * given .count) words) i (omega (arith, l, levels-long ts))),
       )

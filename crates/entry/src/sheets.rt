@@ -8,9 +8,10 @@ ghost use Prim.Native.Nat.{_*_, _/_, _≤_};
 ghost use lib.ListN.{length, take, drop, getD};
 ghost use Rattle.taskset.specs.Tasks.{mostTasks};
 ghost use Rattle.taskset.specs.Levels.{noLevel};
+ghost use Rattle.sheet.specs.Sheet.{sheetTasks};
 ghost use Rattle.sheet.specs.Shipped.{shippedSheet, shippedLevels};
 ghost use Rattle.entry.specs.Fitting.{wholeOrNone, outputAfter};
-ghost use Rattle.entry.specs.Words.{levelWords, sheetWords};
+ghost use Rattle.entry.specs.Words.{levelWords, sheetWords, RightWords};
 
 // Puts three words for each task of the sheet, in its order, over the first words: task, task level, transaction level; and answers how
 // many tasks there are. Bytes that are no sheet, and words too few for its tasks, are refused (13): the answer is 0 and no word is touched.
@@ -18,8 +19,9 @@ ghost use Rattle.entry.specs.Words.{levelWords, sheetWords};
 pub extern "C" fn cards_levels(sheet: &[u8], levels: &mut [u32]) -> usize
     ensures count { λ r. ⌜ r ≡ length (wholeOrNone (sheetWords (now (sheet .entry))) (now (levels .entry))) / 3 ⌝ }
     ensures words { λ _. ⌜ now (levels .exit) ≡ outputAfter (sheetWords (now (sheet .entry))) (now (levels .entry)) ⌝ }
+    ensures paper { λ r. ⌜ RightWords (sheetTasks (now (sheet .entry))) r (now (levels .exit)) ⌝ }
 {
-    let given = taskset::levels_of(sheet::read(sheet));
+    let given = sheet::levels(sheet);
     let n = given.count;
     if levels.len() / 3 < n {
         return 0;

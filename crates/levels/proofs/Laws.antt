@@ -17,7 +17,8 @@ use Rattle.taskset.specs.Tasks.{mostTasks, isTaskSet}
 use Rattle.taskset.specs.Levels.{noLevel, levelsOf, levelled, notLevelled, levelsGiven}
 use Rattle.taskset.proofs.TaskLaws.{set-most}
 use Rattle.taskset.proofs.LevelList.{levels-long}
-use Rattle.levels.specs.Printed.{levelLine, levelLines, refusedLine, tasksPrinted}
+use Rattle.sheet.specs.Sheet.{sheetTasks}
+use Rattle.levels.specs.Printed.{levelLine, levelLines, refusedLine, tasksPrinted, levelsPrinted}
 
 -- ---- texts put one after another from `at` on
 
@@ -102,17 +103,20 @@ next-line {ls} {output} {after} {last} {i} {k} {r} at h room end bytes =
       long = stands-length all (omega (arith, all .count, end, at .short, line-short l, room));
     }
 
--- ---- what is printed of tasks
+-- ---- what is printed of a sheet
 
-module _ (ts : List Task) (given : Levels) (e : given ≡ levelsGiven ts) where
-  pub printed : given .refusal ≡ 0 → (given .count ≤ mostTasks) × (levelLines (take (given .count) (given .list)) ≡ tasksPrinted ts)
-  unfolding levelsGiven levelled notLevelled tasksPrinted
+module _ (bytes : List ℕ) (given : Levels) (e : given ≡ levelsGiven (sheetTasks bytes)) where
+  abbrev ts : List Task
+  ts = sheetTasks bytes
+
+  pub printed : given .refusal ≡ 0 → (given .count ≤ mostTasks) × (levelLines (take (given .count) (given .list)) ≡ levelsPrinted bytes)
+  unfolding levelsGiven levelled notLevelled tasksPrinted levelsPrinted
   printed none = go (isTaskSet ts) refl none
     where
       for : Bool → Levels
       for b = cond b (levelled (levelsOf ts)) notLevelled
 
-      go : (b : Bool) → isTaskSet ts ≡ b → given .refusal ≡ 0 → (given .count ≤ mostTasks) × (levelLines (take (given .count) (given .list)) ≡ tasksPrinted ts)
+      go : (b : Bool) → isTaskSet ts ≡ b → given .refusal ≡ 0 → (given .count ≤ mostTasks) × (levelLines (take (given .count) (given .list)) ≡ levelsPrinted bytes)
       go true is z =
           let all : given ≡ levelled (levelsOf ts) = e ∙ ap for is in
           rw (all, is) (
@@ -121,8 +125,8 @@ module _ (ts : List Task) (given : Levels) (e : given ≡ levelsGiven ts) where
           )
       go false not z = absurd (omega (arith, z, ap (λ (l : Levels). l .refusal) (e ∙ ap for not)))
 
-  pub refused : (given .refusal ≡ 0 → ⊥) → tasksPrinted ts ≡ refusedLine
-  unfolding levelsGiven levelled notLevelled tasksPrinted
+  pub refused : (given .refusal ≡ 0 → ⊥) → levelsPrinted bytes ≡ refusedLine
+  unfolding levelsGiven levelled notLevelled tasksPrinted levelsPrinted
   refused some = go (isTaskSet ts) refl
     where
       go : (b : Bool) → isTaskSet ts ≡ b → cond b (levelLines (levelsOf ts)) refusedLine ≡ refusedLine

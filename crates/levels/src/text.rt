@@ -1,14 +1,13 @@
 // The lines that the program prints. The functions ask for room in the output: 33 bytes for a line, and for 32 of them.
 use taskset::Level;
 use taskset::Levels;
-use taskset::TaskSet;
 ghost use mathlib.Core.Path.{_≡_};
 ghost use mathlib.Core.List.{_++_};
 ghost use Prim.Native.Nat.{_+_, _≤_};
 ghost use lib.ListN.{length, take, drop};
 ghost use Rattle.listing.specs.Text.{placed};
-ghost use Rattle.taskset.specs.Tasks.{mostTasks, standing};
-ghost use Rattle.levels.specs.Printed.{mostPrinted, levelLine, levelLines, tasksPrinted, levelsPrinted};
+ghost use Rattle.taskset.specs.Tasks.{mostTasks};
+ghost use Rattle.levels.specs.Printed.{mostPrinted, levelLine, levelLines, levelsPrinted};
 
 // How many bytes are enough for what is printed: a line of at most 33 for each of 32 tasks.
 pub(crate) const ROOM: usize = 33 * taskset::TASKS;
@@ -19,16 +18,7 @@ pub(crate) fn put_sheet(sheet: &[u8], output: &mut [u8]) -> usize
     ensures count { λ r. ⌜ r ≡ length (levelsPrinted (now (sheet .entry))) ⌝ }
     ensures bytes { λ _. ⌜ now (output .exit) ≡ levelsPrinted (now (sheet .entry)) ++ drop (length (levelsPrinted (now (sheet .entry)))) (now (output .entry)) ⌝ }
 {
-    put_tasks(sheet::read(sheet), output)
-}
-
-// Puts the levels of a task set, or its refusal, over the first bytes of the output, and answers how many bytes that is.
-fn put_tasks(set: TaskSet, output: &mut [u8]) -> usize
-    requires { ⌜ mostPrinted ≤ length (now output) ⌝ }
-    ensures count { λ r. ⌜ r ≡ length (tasksPrinted (standing set)) ⌝ }
-    ensures bytes { λ _. ⌜ now (output .exit) ≡ tasksPrinted (standing set) ++ drop (length (tasksPrinted (standing set))) (now (output .entry)) ⌝ }
-{
-    let levels = taskset::levels_of(set);
+    let levels = sheet::levels(sheet);
     if levels.refusal == 0 {
         put_levels(levels, output)
     } else {

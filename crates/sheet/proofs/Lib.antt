@@ -7,5 +7,6 @@ pub mod NamesLaws
 pub mod CardsWritten
 pub mod Written
 pub mod Longest
+pub mod ListCalls
 pub mod Worked
 pub mod Examples

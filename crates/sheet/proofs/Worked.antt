@@ -1,6 +1,6 @@
 -- The levels of the shipped sheet, worked out from its bytes: table 6.1 of source 002 with table 6.2's levels.
 use mathlib.Core.Path.{_≡_, refl}
-use mathlib.Core.List.{List, [], _∷_}
+use mathlib.Core.List.{List, [], _∷_, map}
 use Rattle.decimal.specs.Reading as Reading
 use Rattle.objset.specs.Objset as Objset
 use Rattle.table.specs.Pieces as Pieces
@@ -32,6 +32,12 @@ pub shipped-groups : Groups.groupsOf (Tasks.cardsOf sixTasks) ≡ 8 ∷ 6 ∷ 6 
 unfolding Groups.groupsOf Groups.withTask Groups.reached Groups.replaced Objset.meeting Objset.some Objset.has Objset.joined Objset.collect
 shipped-groups = refl
 
+-- the ceilings of cards 1, 2 and 3, the last row of table 6.2
+pub shipped-ceilings : map (λ d. Levels.objectCeiling d (Tasks.cardsOf sixTasks) (Levels.taskLevels (Tasks.deadlinesOf sixTasks))) (1 ∷ 2 ∷ 3 ∷ [])
+    ≡ 3 ∷ 4 ∷ 6 ∷ []
+unfolding Levels.taskLevels Levels.taskLevel Levels.different Levels.atLeast Levels.highestOf Tasks.occurs Objset.has
+shipped-ceilings = refl
+
 -- task, task level, transaction level
 abbrev pub sixLevels : List Level
 sixLevels =
@@ -43,5 +49,5 @@ sixLevels =
     ∷ record { number = 6; task = 5; transaction = 0 } ∷ []
 
 pub shipped-levels : shippedLevels ≡ sixLevels
-unfolding shippedLevels Levels.levelsOf Levels.sideBySide Levels.taskLevels Levels.taskLevel Levels.different Levels.atLeast Levels.transactionLevels Levels.highest Tasks.occurs Objset.meeting Objset.some Objset.has
+unfolding shippedLevels Levels.levelsOf Levels.sideBySide Levels.taskLevels Levels.taskLevel Levels.different Levels.atLeast Levels.transactionLevels Levels.highestOf Tasks.occurs Objset.meeting Objset.some Objset.has
 shipped-levels = rw (shipped-tasks, shipped-groups)

@@ -27,7 +27,7 @@ const NO_TASKS: TaskSet = TaskSet {
 
 // The tasks of a sheet; none, where the bytes are no sheet. Where the line of names is bad, the names stand at no field's place, and no
 // line below spells a task.
-pub fn read(bytes: &[u8]) -> TaskSet
+pub(crate) fn read(bytes: &[u8]) -> TaskSet
     ensures { λ r. ⌜ r ≡ packed (sheetTasks (now (bytes .entry))) ⌝ }
 {
     let end = piece_end(bytes, 0, b'\n');

@@ -1,6 +1,6 @@
 -- A function that takes the first n tasks of a lent list and hands them to a function on a task set by value: one walk of its MIR, for every such
 -- function. The slice is lent on to `taken` for its own lifetime; what that took is the argument of the other, whose answer is returned.
-use mathlib.Core.Path.{_≡_, refl, _∙_, ap}
+use mathlib.Core.Path.{_≡_, refl, _∙_, ap, subst}
 use Prim.Native.Nat.{ℕ, _<_, _^_}
 use mathlib.Core.Option.{some as just}
 use mathlib.Core.List.{[], _∷_, List, _++_}
@@ -38,7 +38,7 @@ use denote.Triple.Spec.{Meets, tripleOf}
 use denote.Triple.Statement.{Contract, Triple}
 use denote.Triple.Call.{calls-at}
 use denote.Triple.Clauses.{Clauses, Ended, ensured, lasts, closing}
-use denote.Triple.Walked.{says, Stays, stay-dropped, walkOf, goes-dropped, ends-at}
+use denote.Triple.Walked.{Stays, stay-dropped, walkOf, goes-dropped, ends-at}
 use denote.Exit.{yes}
 use Rattle.taskset.specs.declared.Task.{Task}
 use Rattle.taskset.specs.declared.TaskSet.{TaskSet}
@@ -46,7 +46,7 @@ use Rattle.taskset.specs.Tasks.{packed, standing}
 use Rattle.tasklist.specs.Lists.{firstOf}
 use Rattle.taskset.proofs.TaskSet as S
 use Rattle.taskset.proofs.TaskSet.Laws as S′
-use Rattle.tasklist.proofs.Walk.{upto, envOf, leaves, by-walk}
+use Rattle.tasklist.proofs.Walk.{upto, envOf, leaves, says-both, by-walk}
 use Rattle.tasklist.proofs.TaskRow.{R}
 use Rattle.tasklist.proofs.ListLaws.{standing-first}
 use Rattle.tasklist.proofs.taken as taken
@@ -56,12 +56,12 @@ use Rattle.tasklist.proofs.taken.Symbol.{name as #taken}
 abbrev pub Taken : {M : Type 1} (𝓤 : URA M) (H : Heap 𝓤) (A : Atoms 𝓤) (mem : Memory → SProp 𝓤) (run : Routine → Fun 𝓤) → Contract 𝓤
 Taken 𝓤 H A mem run = tripleOf 𝓤 H A taken.signature (taken.spec 𝓤 H A mem run)
 
--- D is a struct, and `given` what is answered
-module _ (D : Declared) (given : List Task → D .D) where
+-- D is a struct, `given` what is answered, and `right` what holds of it
+module _ (D : Declared) (given : List Task → D .D) (right : List Task → D .D → Type 0) where
   abbrev Y : RattleType
   Y = row′ D
 
-  -- the signature and the promise of the function, and of the function by value; their contracts
+  -- the signature and the promises of the function, and of the function by value; their contracts
   abbrev pub ended : Ended
   ended = record {
     signature = record {
@@ -74,7 +74,11 @@ module _ (D : Declared) (given : List Task → D .D) where
   }
 
   abbrev pub clauses : {M : Type 1} (𝓤 : URA M) → Clauses 𝓤 ended
-  clauses 𝓤 κs a = record { ghost = Unit {0}; requires = λ _. emp 𝓤; ensures = λ _ r _. fact 𝓤 (r ≡ given (firstOf (a .1 .0) (a .0 .now))) }
+  clauses 𝓤 κs a = record {
+    ghost = Unit {0};
+    requires = λ _. emp 𝓤;
+    ensures = λ _ r _. sep 𝓤 (fact 𝓤 (r ≡ given (firstOf (a .1 .0) (a .0 .now)))) (fact 𝓤 (right (firstOf (a .1 .0) (a .0 .now)) r));
+  }
 
   abbrev pub Answers : {M : Type 1} (𝓤 : URA M) (H : Heap 𝓤) (A : Atoms 𝓤) → Contract 𝓤
   Answers 𝓤 H A = tripleOf 𝓤 H A (ended .signature) (closing 𝓤 H A ended (clauses 𝓤))
@@ -87,7 +91,11 @@ module _ (D : Declared) (given : List Task → D .D) where
   }
 
   abbrev gives : {M : Type 1} (𝓤 : URA M) → Clauses 𝓤 byValue
-  gives 𝓤 κs a = record { ghost = Unit {0}; requires = λ _. emp 𝓤; ensures = λ _ r _. fact 𝓤 (r ≡ given (standing (a .0))) }
+  gives 𝓤 κs a = record {
+    ghost = Unit {0};
+    requires = λ _. emp 𝓤;
+    ensures = λ _ r _. sep 𝓤 (fact 𝓤 (r ≡ given (standing (a .0)))) (fact 𝓤 (right (standing (a .0)) r));
+  }
 
   abbrev pub Gives : {M : Type 1} (𝓤 : URA M) (H : Heap 𝓤) (A : Atoms 𝓤) → Contract 𝓤
   Gives 𝓤 H A = tripleOf 𝓤 H A (byValue .signature) (closing 𝓤 H A byValue (gives 𝓤))
@@ -122,11 +130,12 @@ module _ (D : Declared) (given : List Task → D .D) where
       abbrev Post : Val → SProp 𝓤
       Post = walkOf 𝓤 H A ended stayed (clauses 𝓤) .post (((κ, tt), (q, tt), tt, (x, (n, tt)), at), tt)
 
-      exits : (d : D .D) (v : Val) → Is Y d (v ∷ []) → d ≡ given (firstOf n ys) → ent 𝓤 (⋆ 𝓤 H A (‵ (flft κ q) ∷ [])) (Post v)
-      exits d v p e =
+      exits : (d : D .D) (v : Val) → Is Y d (v ∷ []) → d ≡ given (firstOf n ys) → right (firstOf n ys) d
+          → ent 𝓤 (⋆ 𝓤 H A (‵ (flft κ q) ∷ [])) (Post v)
+      exits d v p e e′ =
           qed W (‵ (flft κ q) ∷ []) ∵
           suffices ! _ (ends-at 𝓤 H A ended stayed (clauses 𝓤) W (((κ, tt), (q, tt), tt, (x, (n, tt)), at), tt) v d (tt, (tt, tt)) (tt, (tt, tt))) $
-          says ! e $
+          says-both ! e e′ $
           nothing ! $ move ! (1 ∷ 0 ∷ []) $ join ! $ frame ! $ pureI ! (fsep ftrue (fsep ftrue ftrue)) (tt, (tt, tt)) (tt, (tt, tt)) $ frame ! $
           owned ! Y (Is Y) (LL.makes D plains 𝓤 H A) d _ p $ done !
 
@@ -178,14 +187,19 @@ module _ (D : Declared) (given : List Task → D .D) where
           calls-at ! (fmOf 𝓤 H (W .laws) 𝓣) (Gives 𝓤 H A) known (to-g t w) (and-then ! (load ! (from ! (stop !)) (look ! 1 refl)) (no-more !)) (λ v.
           use1 W (later (some (λ (d : D .D). (‵ ftrue ⊛ ‵ (Y .own d (v ∷ []))) ⊛ raw (ensured 𝓤 H A byValue (gives 𝓤) tt (t, tt) tt d)))) (id⊢ 𝓤 _) $
           await ! tt $ pick ! (λ d. split ! $ move ! (1 ∷ []) $
-          use1 W (some (λ (zs : Unit {0} × Unit {0}). ‵ (lasts byValue tt (t, tt) zs) ⊛ raw (fact 𝓤 (d ≡ given (standing t))))) (id⊢ 𝓤 _) $
-          pick ! (λ _. split ! $ move ! (1 ∷ []) $ heard ! (d ≡ given (standing t)) (λ is′. drop ! $ split ! $ drop ! $
+          use1 W (some (λ (zs : Unit {0} × Unit {0}). ‵ (lasts byValue tt (t, tt) zs) ⊛
+          (raw (fact 𝓤 (d ≡ given (standing t))) ⊛ raw (fact 𝓤 (right (standing t) d))))) (id⊢ 𝓤 _) $
+          pick ! (λ _. split ! $ move ! (1 ∷ []) $ split ! $
+          heard ! (d ≡ given (standing t)) (λ is′. heard ! (right (standing t) d) (λ holds. drop ! $ split ! $ drop ! $
           facts ! Y (Is Y) (shows 𝓤 H A Y) d (v ∷ []) (λ p′.
           land ! (from ! (stop !)) (init ! 6 refl (LL.lawful D L 𝓤 H A W .typed d (v ∷ []) p′ .0)) $
           move ! (8 ∷ []) $ returns ! (look ! 7 refl) $
           by ! (leaves W (‵ (flft κ q) ∷ []) (envOf (function .locals) (l₀ ∷ l₁ ∷ l₂ ∷ l₃ ∷ []))
           (just v ∷ just s ∷ just (vint w64 n) ∷ just w ∷ []) [] _
-          (exits d v p′ (is′ ∙ ap (λ (u : TaskSet). given (standing u)) is ∙ ap given (standing-first n ys))))))))))))))))))
+          (exits d v p′ (is′ ∙ ap given (same t is)) (subst (λ (ts : List Task). right ts d) (same t is) holds))))))))))))))))))
+        where
+          same : (t : TaskSet) → t ≡ packed (firstOf n ys) → standing t ≡ firstOf n ys
+          same t is = ap standing is ∙ standing-first n ys
 
     -- from the two callees' contracts to the function's
     pub meets : {M : Type 1} (𝓤 : URA M) (H : Heap 𝓤) (𝓜 : Model 𝓤 H) (𝓖 : GhostRules 𝓤 H) (𝓡 : Running 𝓤 H 𝓜) (env : Routines) (k : Name)

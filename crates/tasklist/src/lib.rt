@@ -13,7 +13,9 @@ use taskset::levels_of;
 ghost use mathlib.Core.Path.{_≡_};
 ghost use Rattle.taskset.specs.Tasks.{packed, standing};
 ghost use Rattle.taskset.specs.Groups.{groupsGiven};
+ghost use Rattle.taskset.specs.Chains.{RightGroups};
 ghost use Rattle.taskset.specs.Levels.{levelsGiven};
+ghost use Rattle.taskset.specs.Ceilings.{RightLevels};
 ghost use Rattle.tasklist.specs.Lists.{fillGiven, filledList, firstOf};
 
 // How many tasks were put into a list; or a refusal, which is 0 where there is none.
@@ -59,7 +61,7 @@ pub fn taken(list: &[Task], n: usize) -> TaskSet
         number: 0,
         core: 0,
         deadline: 0,
-        cards: 0,
+        cards: objset::EMPTY,
     }; TASKS];
     let mut count: usize = 0;
     if n <= TASKS {
@@ -80,14 +82,16 @@ pub fn taken(list: &[Task], n: usize) -> TaskSet
 
 // The levels of the first n tasks of the list; refused 13, where they are not the tasks of a sheet.
 pub fn levels(list: &[Task], n: usize) -> Levels
-    ensures { λ r. ⌜ r ≡ levelsGiven (firstOf n (now (list .entry))) ⌝ }
+    ensures rule { λ r. ⌜ r ≡ levelsGiven (firstOf n (now (list .entry))) ⌝ }
+    ensures paper { λ r. ⌜ RightLevels (firstOf n (now (list .entry))) r ⌝ }
 {
     levels_of(taken(list, n))
 }
 
 // The contention groups of the first n tasks of the list; refused 13, where they are not the tasks of a sheet.
 pub fn groups(list: &[Task], n: usize) -> Groups
-    ensures { λ r. ⌜ r ≡ groupsGiven (firstOf n (now (list .entry))) ⌝ }
+    ensures rule { λ r. ⌜ r ≡ groupsGiven (firstOf n (now (list .entry))) ⌝ }
+    ensures paper { λ r. ⌜ RightGroups (firstOf n (now (list .entry))) r ⌝ }
 {
     groups_of(taken(list, n))
 }

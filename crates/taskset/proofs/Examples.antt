@@ -25,8 +25,14 @@ groups = refl
 -- ---- transaction levels: the highest of the group, 0 without cards
 
 pub transaction-levels : Levels.transactionLevels (7 ∷ 7 ∷ 8 ∷ 0 ∷ []) (1 ∷ 3 ∷ 2 ∷ 4 ∷ []) ≡ 3 ∷ 3 ∷ 2 ∷ 0 ∷ []
-unfolding Levels.transactionLevels Levels.highest Objset.meeting Objset.some Objset.has
+unfolding Levels.transactionLevels Levels.highestOf Objset.meeting Objset.some Objset.has
 transaction-levels = refl
+
+-- ---- ceilings of objects: the highest level of the tasks that use them, 0 where none does
+
+pub object-ceilings : map (λ d. Levels.objectCeiling d (1 ∷ 3 ∷ 2 ∷ 0 ∷ []) (1 ∷ 3 ∷ 2 ∷ 4 ∷ [])) (0 ∷ 1 ∷ 2 ∷ []) ≡ 3 ∷ 3 ∷ 0 ∷ []
+unfolding Levels.highestOf Objset.has
+object-ceilings = refl
 
 -- ---- which lists are a task set: at most 32 tasks, cores to 15, numbers that differ
 

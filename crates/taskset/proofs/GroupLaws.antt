@@ -11,11 +11,10 @@ use lib.ListN.{length, getD}
 use borrow.Author.Tests.{eqb-true, eq-eqb}
 use Rattle.objset.specs.Objset.{has, none, joined, meeting}
 use Rattle.objset.specs.Words.{Words}
-use Rattle.objset.proofs.Digits.{has-zero}
-use Rattle.objset.proofs.Laws.{has-none, has-joined, joined-fits, meeting-one, one-meeting}
+use Rattle.objset.proofs.Laws.{has-none, none-zero, has-joined, joined-fits, meeting-one, one-meeting}
 use Rattle.taskset.specs.Groups.{reached, replaced, withTask, groupsOf, inOneGroup}
-use Rattle.taskset.specs.Chains.{Chain, alone, onward}
-use Rattle.taskset.proofs.ChainLaws.{and-then, back, from-none, one-on}
+use Rattle.taskset.specs.Chains.{Uses, UsesNone, Chain, alone, onward}
+use Rattle.taskset.proofs.ChainLaws.{and-then, back, from-none, used-within, one-on}
 
 either : (a b : Bool) → (a || b) ≡ true → (a ≡ true) ⊎ (b ≡ true)
 either true b e = inl refl
@@ -23,9 +22,12 @@ either false b e = inr e
 
 -- ---- words
 
+none-fits : none < 2 ^ 64
+none-fits = rw none-zero (omega arith)
+
 -- the cards at any place are a word: past the end there are none
-pub word-at : (cs : List ℕ) → Words cs → (k : ℕ) → getD cs k 0 < 2 ^ 64
-word-at [] w k = omega arith
+pub word-at : (cs : List ℕ) → Words cs → (k : ℕ) → getD cs k none < 2 ^ 64
+word-at [] w k = none-fits
 word-at (c ∷ cs) w zero = w .0
 word-at (c ∷ cs) w (suc k) = word-at cs (w .1) k
 
@@ -37,14 +39,11 @@ not-meeting a b none = go (meeting a b) refl
     go true t = let m = meeting-one a b t in absurd (none (m .0) (m .2) (m .3))
     go false t = refl
 
-pub no-card : (d : ℕ) → has 0 d ≡ true → ⊥
-no-card d p = true≢false (sym p ∙ has-zero d)
+pub no-card : (d : ℕ) → has none d ≡ true → ⊥
+no-card d p = true≢false (sym p ∙ has-none d)
 
-pub meeting-zero : (c : ℕ) → meeting c 0 ≡ false
-meeting-zero c = not-meeting c 0 (λ d p. no-card d)
-
-pub zero-meeting : (c : ℕ) → meeting 0 c ≡ false
-zero-meeting c = not-meeting 0 c (λ d p q. no-card d p)
+pub meeting-none : (c : ℕ) → meeting c none ≡ false
+meeting-none c = not-meeting c none (λ d p. no-card d)
 
 pub reached-fits : (c : ℕ) (gs : List ℕ) → c < 2 ^ 64 → reached c gs < 2 ^ 64
 unfolding reached
@@ -59,7 +58,7 @@ reached-fits c (g ∷ gs) h = go (meeting c g) (reached-fits c gs h)
 
 -- card d is in a group that the cards c meet
 abbrev Met : ℕ → List ℕ → ℕ → Type 0
-Met c gs d = (k : ℕ) × (meeting c (getD gs k 0) ≡ true) × (has (getD gs k 0) d ≡ true)
+Met c gs d = (k : ℕ) × (meeting c (getD gs k none) ≡ true) × (has (getD gs k none) d ≡ true)
 
 module _ (c : ℕ) (fits : c < 2 ^ 64) where
   -- one group more
@@ -87,7 +86,7 @@ module _ (c : ℕ) (fits : c < 2 ^ 64) where
   reached-own (g ∷ gs) d w p = reached-still g gs d (w .0) (reached-own gs d (w .1) p)
 
   -- those of each group that they meet
-  pub reached-met : (gs : List ℕ) (k d : ℕ) → Words gs → meeting c (getD gs k 0) ≡ true → has (getD gs k 0) d ≡ true → has (reached c gs) d ≡ true
+  pub reached-met : (gs : List ℕ) (k d : ℕ) → Words gs → meeting c (getD gs k none) ≡ true → has (getD gs k none) d ≡ true → has (reached c gs) d ≡ true
   reached-met [] k d w m p = absurd (no-card d p)
   reached-met (g ∷ gs) zero d w m p = reached-more g gs d (w .0) ∙ rw (m, p)
   reached-met (g ∷ gs) (suc k) d w m p = reached-still g gs d (w .0) (reached-met gs k d (w .1) m p)
@@ -110,9 +109,9 @@ module _ (c : ℕ) (fits : c < 2 ^ 64) where
 -- ---- the groups after a task more
 
 -- past the end there is no group, and none is replaced
-replaced-at : (c whole : ℕ) (gs : List ℕ) (k : ℕ) → getD (replaced c whole gs) k 0 ≡ cond (meeting c (getD gs k 0)) whole (getD gs k 0)
+replaced-at : (c whole : ℕ) (gs : List ℕ) (k : ℕ) → getD (replaced c whole gs) k none ≡ cond (meeting c (getD gs k none)) whole (getD gs k none)
 unfolding replaced
-replaced-at c whole [] k = rw (meeting-zero c)
+replaced-at c whole [] k = rw (meeting-none c)
 replaced-at c whole (g ∷ gs) zero = refl
 replaced-at c whole (g ∷ gs) (suc k) = replaced-at c whole gs k
 
@@ -138,35 +137,35 @@ groups-length (c ∷ cs) = ap suc (replaced-length c (reached c (groupsOf cs)) (
 -- what holds of the groups gs of tasks with the cards cs
 pub record Grouped (cs gs : List ℕ) : Type 0 where
   pub words : Words gs
-  pub own : (k d : ℕ) → has (getD cs k 0) d ≡ true → has (getD gs k 0) d ≡ true
-  pub same : (j k d : ℕ) → has (getD gs j 0) d ≡ true → has (getD gs k 0) d ≡ true → getD gs j 0 ≡ getD gs k 0
-  pub linked : (k d : ℕ) → has (getD gs k 0) d ≡ true → (j : ℕ) × (has (getD cs j 0) d ≡ true) × Chain cs k j
+  pub own : (k d : ℕ) → Uses cs k d → has (getD gs k none) d ≡ true
+  pub same : (j k d : ℕ) → has (getD gs j none) d ≡ true → has (getD gs k none) d ≡ true → getD gs j none ≡ getD gs k none
+  pub linked : (k d : ℕ) → has (getD gs k none) d ≡ true → (j : ℕ) × Uses cs j d × Chain cs k j
 
 module _ (c : ℕ) (cs gs : List ℕ) (fits : c < 2 ^ 64) (known : Grouped cs gs) where
   -- a place among the tasks and its group, after the task with the cards c: the new task, one whose group it meets, one whose group it does not
   data Place : ℕ → ℕ → Type 0 where
     new : Place 0 (reached c gs)
-    met : {k : ℕ} → meeting c (getD gs k 0) ≡ true → Place (suc k) (reached c gs)
-    left : {k : ℕ} → meeting c (getD gs k 0) ≡ false → Place (suc k) (getD gs k 0)
+    met : {k : ℕ} → meeting c (getD gs k none) ≡ true → Place (suc k) (reached c gs)
+    left : {k : ℕ} → meeting c (getD gs k none) ≡ false → Place (suc k) (getD gs k none)
 
-  place : (k : ℕ) → Place k (getD (withTask c gs) k 0)
+  place : (k : ℕ) → Place k (getD (withTask c gs) k none)
   unfolding withTask
   place zero = new
-  place (suc k) = subst (Place (suc k)) (sym (replaced-at c (reached c gs) gs k)) (go (meeting c (getD gs k 0)) refl)
+  place (suc k) = subst (Place (suc k)) (sym (replaced-at c (reached c gs) gs k)) (go (meeting c (getD gs k none)) refl)
     where
-      go : (b : Bool) → meeting c (getD gs k 0) ≡ b → Place (suc k) (cond b (reached c gs) (getD gs k 0))
+      go : (b : Bool) → meeting c (getD gs k none) ≡ b → Place (suc k) (cond b (reached c gs) (getD gs k none))
       go true m = met m
       go false m = left m
 
-  own-at : {k a : ℕ} → Place k a → (d : ℕ) → has (getD (c ∷ cs) k 0) d ≡ true → has a d ≡ true
+  own-at : {k a : ℕ} → Place k a → (d : ℕ) → Uses (c ∷ cs) k d → has a d ≡ true
   own-at new d p = reached-own c fits gs d (known .words) p
   own-at (met {k} m) d p = reached-met c fits gs k d (known .words) m (known .own k d p)
   own-at (left {k} m) d p = known .own k d p
 
   -- what is reached has no card of a group that is left
-  apart : (k d : ℕ) → meeting c (getD gs k 0) ≡ false → has (reached c gs) d ≡ true → has (getD gs k 0) d ≡ true → ⊥
+  apart : (k d : ℕ) → meeting c (getD gs k none) ≡ false → has (reached c gs) d ≡ true → has (getD gs k none) d ≡ true → ⊥
   apart k d m p q = ⊎-elim
-      (λ e. true≢false (sym (one-meeting c (getD gs k 0) d fits e q) ∙ m))
+      (λ e. true≢false (sym (one-meeting c (getD gs k none) d fits e q) ∙ m))
       (λ f. true≢false (sym (f .1) ∙ ap (meeting c) (known .same (f .0) k d (f .2) q) ∙ m))
       (reached-from c fits gs d (known .words) p)
 
@@ -182,19 +181,19 @@ module _ (c : ℕ) (cs gs : List ℕ) (fits : c < 2 ^ 64) (known : Grouped cs gs
   same-at (left {k = j} m) (left {k} n) d p q = known .same j k d p q
 
   -- the new task uses a card with the end of a chain from each task whose group it meets
-  chain-to : (k : ℕ) → meeting c (getD gs k 0) ≡ true → Chain (c ∷ cs) 0 (suc k)
+  chain-to : (k : ℕ) → meeting c (getD gs k none) ≡ true → Chain (c ∷ cs) 0 (suc k)
   chain-to k m =
-      let shared = meeting-one c (getD gs k 0) m in
+      let shared = meeting-one c (getD gs k none) m in
       let user = known .linked k (shared .0) (shared .3) in
       onward {j = suc (user .0)} (shared .0, shared .2, user .1) (back (one-on c (user .2)))
 
   abbrev Linked : ℕ → ℕ → Type 0
-  Linked k d = (j : ℕ) × (has (getD (c ∷ cs) j 0) d ≡ true) × Chain (c ∷ cs) k j
+  Linked k d = (j : ℕ) × Uses (c ∷ cs) j d × Chain (c ∷ cs) k j
 
   linked-new : (d : ℕ) → has (reached c gs) d ≡ true → Linked 0 d
   linked-new d p = ⊎-elim (λ e. (0, e, alone)) (λ f. further (f .0) (f .1) (known .linked (f .0) d (f .2))) (reached-from c fits gs d (known .words) p)
     where
-      further : (k : ℕ) → meeting c (getD gs k 0) ≡ true → (j : ℕ) × (has (getD cs j 0) d ≡ true) × Chain cs k j → Linked 0 d
+      further : (k : ℕ) → meeting c (getD gs k none) ≡ true → (j : ℕ) × Uses cs j d × Chain cs k j → Linked 0 d
       further k m user = (suc (user .0), user .1, and-then (chain-to k m) (one-on c (user .2)))
 
   linked-at : {k a : ℕ} → Place k a → (d : ℕ) → has a d ≡ true → Linked k d
@@ -223,39 +222,46 @@ are-grouped (c ∷ cs) w = one-more c cs (groupsOf cs) (w .0) (are-grouped cs (w
 -- ---- chains and groups
 
 module _ (cs : List ℕ) (words : Words cs) where
-  chain-same : {i j : ℕ} → Chain cs i j → getD (groupsOf cs) i 0 ≡ getD (groupsOf cs) j 0
+  chain-same : {i j : ℕ} → Chain cs i j → getD (groupsOf cs) i none ≡ getD (groupsOf cs) j none
   chain-same alone = refl
   chain-same (onward {i} {j} s v) =
       are-grouped cs words .same i j (s .0) (are-grouped cs words .own i (s .0) (s .1)) (are-grouped cs words .own j (s .0) (s .2)) ∙ chain-same v
 
   -- a task with a card meets each group at the end of a chain
-  pub chain-meets : {i j : ℕ} (d : ℕ) → has (getD cs i 0) d ≡ true → Chain cs i j → meeting (getD (groupsOf cs) i 0) (getD (groupsOf cs) j 0) ≡ true
+  pub chain-meets : {i j : ℕ} (d : ℕ) → Uses cs i d → Chain cs i j → meeting (getD (groupsOf cs) i none) (getD (groupsOf cs) j none) ≡ true
   chain-meets {i} {j} d p v =
       let own = are-grouped cs words .own i d p in
-      one-meeting (getD (groupsOf cs) i 0) (getD (groupsOf cs) j 0) d (word-at (groupsOf cs) (are-grouped cs words .words) i) own
+      one-meeting (getD (groupsOf cs) i none) (getD (groupsOf cs) j none) d (word-at (groupsOf cs) (are-grouped cs words .words) i) own
       (ap (λ (g : ℕ). has g d) (sym (chain-same v)) ∙ own)
 
-  pub meets-chain : (i j : ℕ) → meeting (getD (groupsOf cs) i 0) (getD (groupsOf cs) j 0) ≡ true → Chain cs i j
+  pub meets-chain : (i j : ℕ) → meeting (getD (groupsOf cs) i none) (getD (groupsOf cs) j none) ≡ true → Chain cs i j
   meets-chain i j m =
-      let shared = meeting-one (getD (groupsOf cs) i 0) (getD (groupsOf cs) j 0) m in
+      let shared = meeting-one (getD (groupsOf cs) i none) (getD (groupsOf cs) j none) m in
       let one = are-grouped cs words .linked i (shared .0) (shared .2) in
       let other = are-grouped cs words .linked j (shared .0) (shared .3) in
       and-then (one .2) (onward (shared .0, one .1, other .1) (back (other .2)))
 
   -- the group of a task without cards has none
-  pub group-none : (i : ℕ) → getD cs i 0 ≡ none → (d : ℕ) → has (getD (groupsOf cs) i 0) d ≡ true → ⊥
+  pub group-none : (i : ℕ) → UsesNone cs i → (d : ℕ) → has (getD (groupsOf cs) i none) d ≡ true → ⊥
   group-none i e d p =
       let user = are-grouped cs words .linked i d p in
-      let same : getD cs (user .0) 0 ≡ none = ap (λ (j : ℕ). getD cs j 0) (sym (from-none e (user .2))) ∙ e in
-      true≢false (sym (user .1) ∙ ap (λ (c : ℕ). has c d) same ∙ has-none d)
+      true≢false (sym (user .1) ∙ ap (λ (j : ℕ). has (getD cs j none) d) (sym (from-none e (user .2))) ∙ e d)
 
-  pub together : {i j : ℕ} → Chain cs i j → inOneGroup cs i j ≡ true
+  pub together : {i j : ℕ} → Chain cs i j → inOneGroup (groupsOf cs) i j ≡ true
   unfolding inOneGroup
-  together (alone {i}) = ap (λ (b : Bool). b || meeting (getD (groupsOf cs) i 0) (getD (groupsOf cs) i 0)) (eq-eqb i i refl)
+  together (alone {i}) = ap (λ (b : Bool). b || meeting (getD (groupsOf cs) i none) (getD (groupsOf cs) i none)) (eq-eqb i i refl)
   together (onward {i} {k} s v) = ap (λ (b : Bool). eqb i k || b) (chain-meets (s .0) (s .1) (onward s v)) ∙ or-true (eqb i k)
 
-  pub no-others : (i j : ℕ) → inOneGroup cs i j ≡ true → Chain cs i j
+  pub no-others : (i j : ℕ) → inOneGroup (groupsOf cs) i j ≡ true → Chain cs i j
   unfolding inOneGroup
   no-others i j e =
       ⊎-elim (λ t. subst (Chain cs i) (eqb-true i j t) alone) (meets-chain i j)
-      (either (eqb i j) (meeting (getD (groupsOf cs) i 0) (getD (groupsOf cs) j 0)) e)
+      (either (eqb i j) (meeting (getD (groupsOf cs) i none) (getD (groupsOf cs) j none)) e)
+
+  -- the group of a task has each card that is used at the end of a chain
+  pub chain-has : (i j d : ℕ) → Chain cs i j → Uses cs j d → has (getD (groupsOf cs) i none) d ≡ true
+  chain-has i j d v p = ap (λ (g : ℕ). has g d) (chain-same v) ∙ are-grouped cs words .own j d p
+
+  -- and no other
+  pub has-chain : (i d : ℕ) → has (getD (groupsOf cs) i none) d ≡ true → (j : ℕ) × (j < length cs) × Chain cs i j × Uses cs j d
+  has-chain i d p = let user = are-grouped cs words .linked i d p in (user .0, used-within cs (user .0) d (user .1), user .2, user .1)

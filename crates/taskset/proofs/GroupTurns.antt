@@ -7,7 +7,8 @@ use Prim.Native.Nat.{ℕ, suc, _-_, _≤_, _<_}
 use native.Mathlib.Omega.{arith}
 use lib.ListN.{length, getD, set, take, drop, replicate, length-map, length-append, length-drop, drop-of-length-le}
 use lib.Seq.{take-length, drop-length, take-suc, drop-cons, append-snoc, length-take-le, take-all, take-at, drop-at, set-at, getD-at}
-use Rattle.objset.specs.Objset.{joined, meeting}
+use Rattle.objset.specs.Objset.{none, joined, meeting}
+use Rattle.objset.proofs.Laws.{none-zero}
 use Rattle.taskset.specs.declared.Task.{Task}
 use Rattle.taskset.specs.Tasks.{mostTasks, cardsOf, isTaskSet}
 use Rattle.taskset.specs.Groups.{reached, replaced, withTask, groupsOf, grouped, notGrouped, groupsGiven}
@@ -111,17 +112,17 @@ module _ (cs : List ℕ) (i : ℕ) (first : 0 < i) (within : i ≤ length cs) (n
 
 module _ (ts : List Task) (n : ℕ) (long : length ts ≡ n) where
   -- the cards of the tasks in the first places of an array become their groups
-  pub groups-given : (row gs : List ℕ) → isTaskSet ts ≡ true → row ≡ cardsOf ts ++ replicate (mostTasks - n) 0 → gs ≡ groupsOf (take n row)
+  pub groups-given : (row gs : List ℕ) → isTaskSet ts ≡ true → row ≡ cardsOf ts ++ replicate (mostTasks - n) none → gs ≡ groupsOf (take n row)
       → record { cards = gs ++ drop n row; count = n; refusal = 0 } ≡ groupsGiven ts
   unfolding groupsGiven grouped
   groups-given row gs valid e g =
       let cards = length-map ts (λ (t : Task). t .cards) ∙ long in
-      let front : take n row ≡ cardsOf ts = ap (take n) e ∙ take-at (cardsOf ts) (replicate (mostTasks - n) 0) n cards in
-      let back : drop n row ≡ replicate (mostTasks - n) 0 = ap (drop n) e ∙ drop-at (cardsOf ts) (replicate (mostTasks - n) 0) n cards in
+      let front : take n row ≡ cardsOf ts = ap (take n) e ∙ take-at (cardsOf ts) (replicate (mostTasks - n) none) n cards in
+      let back : drop n row ≡ replicate (mostTasks - n) none = ap (drop n) e ∙ drop-at (cardsOf ts) (replicate (mostTasks - n) none) n cards in
       let groups : gs ≡ groupsOf (cardsOf ts) = g ∙ ap groupsOf front in
       let size : length (groupsOf (cardsOf ts)) ≡ n = groups-length (cardsOf ts) ∙ cards in
       rw (valid, back, groups, size)
 
-pub groups-refused : (ts : List Task) → isTaskSet ts ≡ false → notGrouped ≡ groupsGiven ts
-unfolding groupsGiven
-groups-refused ts e = rw e
+pub groups-refused : (ts : List Task) → isTaskSet ts ≡ false → record { cards = replicate mostTasks 0; count = 0; refusal = 13 } ≡ groupsGiven ts
+unfolding groupsGiven notGrouped
+groups-refused ts e = rw (e, none-zero)

@@ -1,10 +1,11 @@
 -- The list of levels, task by task, and where the loop that fills it stands.
 use mathlib.Core.Path.{_≡_, refl, sym, ap, _∙_}
 use mathlib.Core.Bool.{true, false}
-use mathlib.Core.List.{List, [], _∷_, _++_}
+use mathlib.Core.List.{List, [], _∷_, _++_, map}
 use Prim.Native.Nat.{ℕ, zero, suc, _+_, _-_, _<_}
 use native.Mathlib.Omega.{arith}
-use lib.ListN.{length, length-map, getD, replicate}
+use lib.ListN.{length, length-map, getD, replicate, List·getD-map}
+use Rattle.objset.proofs.Laws.{none-zero}
 use Rattle.taskset.specs.declared.Task.{Task}
 use Rattle.taskset.specs.declared.Level.{Level}
 use Rattle.taskset.specs.Tasks.{mostTasks, noTask, deadlinesOf, cardsOf, isTaskSet, standing}
@@ -35,6 +36,12 @@ side-long (t ∷ ts) [] ms p q = absurd (omega arith)
 side-long (t ∷ ts) (l ∷ ls) [] p q = absurd (omega arith)
 side-long (t ∷ ts) (l ∷ ls) (m ∷ ms) p q = ap suc (side-long ts ls ms (omega arith) (omega arith))
 
+-- an entry of a list worked out entry by entry; what is read past its end does not matter
+map-at : (f : ℕ → ℕ) (ns : List ℕ) (i x : ℕ) → i < length ns → getD (map f ns) i x ≡ f (getD ns i x)
+map-at f [] i x l = absurd (omega arith)
+map-at f (n ∷ ns) zero x l = refl
+map-at f (n ∷ ns) (suc i) x l = map-at f ns i x (omega arith)
+
 module _ (ts : List Task) where
   abbrev groups : List ℕ
   groups = groupsOf (cardsOf ts)
@@ -54,20 +61,25 @@ module _ (ts : List Task) where
   unfolding levelsOf
   levels-long = side-long ts levels (transactionLevels groups levels) levels-fit transactions-fit
 
-  pub level-there : (i : ℕ) → i < length ts
-      → getD (levelsOf ts) i noLevel ≡ record { number = getD ts i noTask .number; task = getD levels i 0; transaction = highest (getD groups i 0) groups levels }
+  pub levels-at : (i : ℕ) → i < length ts → getD (levelsOf ts) i noLevel
+      ≡ record { number = getD ts i noTask .number; task = getD levels i 0; transaction = getD (transactionLevels groups levels) i 0 }
   unfolding levelsOf
-  level-there i l =
-      side-at ts levels (transactionLevels groups levels) i l levels-fit transactions-fit
-      ∙ ap (λ (m : ℕ). record { number = getD ts i noTask .number; task = getD levels i 0; transaction = m }) (level-at groups levels i)
+  levels-at i l = side-at ts levels (transactionLevels groups levels) i l levels-fit transactions-fit
+
+  pub task-level-at : (i : ℕ) → i < length ts → getD levels i 0 ≡ taskLevel (deadlinesOf ts) (getD ts i noTask .deadline)
+  unfolding taskLevels
+  task-level-at i l =
+      map-at (taskLevel (deadlinesOf ts)) (deadlinesOf ts) i 0 (omega (arith, l, length-map ts (λ (t : Task). t .deadline)))
+      ∙ ap (taskLevel (deadlinesOf ts)) (List·getD-map (λ (t : Task). t .deadline) ts i noTask)
 
 -- the levels that are made of a task, a group and a level
 pub level-made : (s : TaskSet) (gs ls : List ℕ) → Columns s gs ls → length (s .tasks) ≡ mostTasks → (i : ℕ) → i < s .count → (m : ℕ)
     → m ≡ highest (getD gs i 0) gs ls
     → record { number = getD (s .tasks) i noTask .number; task = getD ls i 0; transaction = m } ≡ getD (levelsOf (standing s)) i noLevel
 level-made s gs ls columns size i l m e =
-    rw (e, columns .by-group, columns .by-level, sym (standing-at s (columns .few) i l))
-    (sym (level-there (standing s) i (omega (arith, standing-long s size (columns .few)))))
+    let level : m ≡ getD (transactionLevels gs ls) i 0 = e ∙ ap (λ (x : ℕ). highest (getD gs i x) gs ls) (sym none-zero) ∙ sym (level-at gs ls i) in
+    rw (level, columns .by-group, columns .by-level, sym (standing-at s (columns .few) i l))
+    (sym (levels-at (standing s) i (omega (arith, standing-long s size (columns .few)))))
 
 -- ---- a task set is levelled, another list is refused
 

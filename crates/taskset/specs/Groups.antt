@@ -6,7 +6,7 @@ use mathlib.Core.Bool.{Bool, cond, _||_}
 use mathlib.Core.List.{List, [], _∷_, _++_}
 use lib.Dec.{eqb}
 use lib.ListN.{length, getD, replicate}
-use Rattle.objset.specs.Objset.{joined, meeting}
+use Rattle.objset.specs.Objset.{none, joined, meeting}
 use Rattle.taskset.specs.declared.Task.{Task}
 use Rattle.taskset.specs.declared.Groups.{Groups}
 use Rattle.taskset.specs.Tasks.{mostTasks, cardsOf, isTaskSet}
@@ -30,17 +30,17 @@ unfoldable pub groupsOf : List ℕ → List ℕ
 groupsOf [] = []
 groupsOf (c ∷ cs) = withTask c (groupsOf cs)
 
--- whether two tasks, by their places, are in one group: the same task, or their groups have a common card
+-- whether two tasks, by their places, are in one group of these: the same task, or their groups have a common card
 unfoldable pub inOneGroup : List ℕ → ℕ → ℕ → Bool
-inOneGroup cs i j = eqb i j || meeting (getD (groupsOf cs) i 0) (getD (groupsOf cs) j 0)
+inOneGroup gs i j = eqb i j || meeting (getD gs i none) (getD gs j none)
 
--- groups in the first places of an array, zeros past them, and no refusal
+-- groups in the first places of an array, the empty set past them, and no refusal
 unfoldable pub grouped : List ℕ → Groups
-grouped gs = record { cards = gs ++ replicate (mostTasks - length gs) 0; count = length gs; refusal = 0 }
+grouped gs = record { cards = gs ++ replicate (mostTasks - length gs) none; count = length gs; refusal = 0 }
 
 -- refused 13: these are the tasks of no sheet
 unfoldable pub notGrouped : Groups
-notGrouped = record { cards = replicate mostTasks 0; count = 0; refusal = 13 }
+notGrouped = record { cards = replicate mostTasks none; count = 0; refusal = 13 }
 
 -- what a list of tasks is answered
 unfoldable pub groupsGiven : List Task → Groups

@@ -1,11 +1,11 @@
--- The preemption levels of a task set (source 002, 6.3.1, definitions 33 to 35), worked out: by Ceilings.antt of proofs/ a transaction's is the
--- highest task level of its group.
+-- The preemption levels of a task set (source 002, 6.3.1, definitions 33 to 35), worked out. Ceilings.antt has paper 2's sentences as they are;
+-- what is worked out is proved to keep them.
 use Prim.Native.Nat.{ℕ, suc, _-_, max}
-use mathlib.Core.Bool.{cond}
+use mathlib.Core.Bool.{Bool, cond}
 use mathlib.Core.List.{List, [], _∷_, _++_, map}
 use lib.Dec.{leb}
 use lib.ListN.{length, replicate}
-use Rattle.objset.specs.Objset.{meeting}
+use Rattle.objset.specs.Objset.{has, meeting}
 use Rattle.taskset.specs.declared.Task.{Task}
 use Rattle.taskset.specs.declared.Level.{Level}
 use Rattle.taskset.specs.declared.Levels.{Levels}
@@ -34,12 +34,20 @@ taskLevels deadlines = map (taskLevel deadlines) deadlines
 
 -- ---- transaction levels
 
--- the highest of the levels whose groups have a card of this one (definition 34, the ceiling of a contention group); 0 where none has, so for a
+-- the highest of the levels whose sets pass a test; 0 where none does
+unfoldable pub highestOf : (ℕ → Bool) → List ℕ → List ℕ → ℕ
+highestOf test [] levels = 0
+highestOf test (s ∷ ss) [] = 0
+highestOf test (s ∷ ss) (l ∷ ls) = cond (test s) (max l (highestOf test ss ls)) (highestOf test ss ls)
+
+-- the ceiling of an object (definition 33): the highest level of the tasks that use it
+abbrev pub objectCeiling : ℕ → List ℕ → List ℕ → ℕ
+objectCeiling d cards levels = highestOf (λ (c : ℕ). has c d) cards levels
+
+-- the ceiling of a contention group (definition 34): the highest level of the tasks whose groups have a card of this one; 0 where none has, so for a
 -- task without cards
-unfoldable pub highest : ℕ → List ℕ → List ℕ → ℕ
-highest g [] levels = 0
-highest g (h ∷ hs) [] = 0
-highest g (h ∷ hs) (l ∷ ls) = cond (meeting g h) (max l (highest g hs ls)) (highest g hs ls)
+abbrev pub highest : ℕ → List ℕ → List ℕ → ℕ
+highest g groups levels = highestOf (meeting g) groups levels
 
 -- the level of each transaction: the highest task level in its group, 0 without cards (definition 35)
 unfoldable pub transactionLevels : List ℕ → List ℕ → List ℕ

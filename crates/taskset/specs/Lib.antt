@@ -3,4 +3,5 @@ pub mod Tasks
 pub mod Groups
 pub mod Chains
 pub mod Levels
+pub mod Ceilings
 pub mod Counted

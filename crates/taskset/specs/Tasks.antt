@@ -45,7 +45,7 @@ cardsOf ts = map (λ (t : Task). t .cards) ts
 unfoldable pub isTaskSet : List Task → Bool
 isTaskSet ts = (ltb 0 (length ts) && leb (length ts) mostTasks) && (coresExist ts && allDiffer (numbersOf ts))
 
--- a place where no task stands
+-- a place where no task stands: zeros, which the language reads past an array's end, and so 0 for the empty set
 abbrev pub noTask : Task
 noTask = record { number = 0; core = 0; deadline = 0; cards = 0 }
 

@@ -7,10 +7,12 @@ use crate::tasks::is_task_set;
 ghost use mathlib.Core.Path.{_≡_};
 ghost use Rattle.taskset.specs.Tasks.{standing};
 ghost use Rattle.taskset.specs.Groups.{reached, replaced, groupsOf, groupsGiven};
+ghost use Rattle.taskset.specs.Chains.{RightGroups};
 
 // The groups of the tasks of a set, or refusal 13 where they are the tasks of no sheet.
 pub fn groups_of(set: TaskSet) -> Groups
-    ensures { λ r. ⌜ r ≡ groupsGiven (standing set) ⌝ }
+    ensures rule { λ r. ⌜ r ≡ groupsGiven (standing set) ⌝ }
+    ensures paper { λ r. ⌜ RightGroups (standing set) r ⌝ }
 {
     if is_task_set(set) {
         let n = set.count;
@@ -23,7 +25,7 @@ pub fn groups_of(set: TaskSet) -> Groups
         }
     } else {
         Groups {
-            cards: [0; TASKS],
+            cards: [objset::EMPTY; TASKS],
             count: 0,
             refusal: 13,
         }

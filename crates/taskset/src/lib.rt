@@ -1,8 +1,9 @@
 // A task set (paper 2: the tasks of a job sheet): its contention groups and its preemption levels.
 //
 // A task set is an array of 32 tasks and a count, by value; crate `tasklist` has the functions over a list of tasks that the caller lends. The
-// contracts cite `specs/`. What a caller knows of what stands there: `proofs/TaskLaws.antt` (which tasks are a task set), `proofs/Chains.antt`
-// (groups) and `proofs/Ceilings.antt` (levels). The public functions require nothing: what is no task set is refused 13.
+// contracts cite `specs/`: the clause `rule` what is worked out, the clause `paper` paper 2's own sentences (`specs/Chains.antt` of groups,
+// `specs/Ceilings.antt` of levels), which follow from it by the laws of the same names. Which tasks are a task set: `proofs/TaskLaws.antt`.
+// The public functions require nothing: what is no task set is refused 13.
 
 mod contention;
 mod preemption;
@@ -31,7 +32,7 @@ pub const NO_TASK: Task = Task {
     number: 0,
     core: 0,
     deadline: 0,
-    cards: 0,
+    cards: objset::EMPTY,
 };
 
 // The tasks stand in the first `count` places, in the sheet's order.

@@ -15,6 +15,7 @@ ghost use Prim.Native.Nat.{_≤_};
 ghost use lib.ListN.{length};
 ghost use Rattle.taskset.specs.Tasks.{mostTasks, standing};
 ghost use Rattle.taskset.specs.Levels.{taskLevel, taskLevels, highest, levelsOf, levelled, levelsGiven};
+ghost use Rattle.taskset.specs.Ceilings.{RightLevels};
 ghost use Rattle.taskset.specs.Counted.{lastPlaces, Columns};
 
 // A place where no level stands.
@@ -26,7 +27,8 @@ pub const NO_LEVEL: Level = Level {
 
 // The levels of the tasks of a set, or refusal 13 where they are the tasks of no sheet.
 pub fn levels_of(set: TaskSet) -> Levels
-    ensures { λ r. ⌜ r ≡ levelsGiven (standing set) ⌝ }
+    ensures rule { λ r. ⌜ r ≡ levelsGiven (standing set) ⌝ }
+    ensures paper { λ r. ⌜ RightLevels (standing set) r ⌝ }
 {
     if is_task_set(set) {
         let n = set.count;

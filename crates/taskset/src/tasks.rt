@@ -5,6 +5,7 @@ ghost use mathlib.Core.Path.{_≡_};
 ghost use mathlib.Core.List.{_++_};
 ghost use Prim.Native.Nat.{_-_, _≤_};
 ghost use lib.ListN.{take, drop, replicate};
+ghost use Rattle.objset.specs.Objset.{none};
 ghost use Rattle.taskset.specs.Tasks.{mostTasks, occurs, allDiffer, deadlinesOf, cardsOf, standing, isTaskSet};
 
 // The last core that a task may run on.
@@ -78,13 +79,13 @@ pub(crate) fn deadlines_of(set: TaskSet) -> [u32; TASKS]
     deadlines
 }
 
-// The cards of each task, in the first places; zeros past them.
+// The cards of each task, in the first places; no cards past them.
 pub(crate) fn cards_of(set: TaskSet) -> [u64; TASKS]
     requires { ⌜ set .count ≤ mostTasks ⌝ }
-    ensures { λ r. ⌜ r ≡ cardsOf (standing set) ++ replicate (mostTasks - set .count) 0 ⌝ }
+    ensures { λ r. ⌜ r ≡ cardsOf (standing set) ++ replicate (mostTasks - set .count) none ⌝ }
 {
     let n = set.count;
-    let mut cards = [0u64; TASKS];
+    let mut cards = [objset::EMPTY; TASKS];
     let mut i = 0;
     while i < n {
         let t = set.tasks[i];

@@ -44,7 +44,9 @@ use Rattle.taskset.specs.declared.Task.{Task}
 use Rattle.taskset.specs.declared.Levels.{Levels}
 use Rattle.taskset.specs.declared.Groups.{Groups}
 use Rattle.taskset.specs.Groups.{groupsGiven}
+use Rattle.taskset.specs.Chains.{RightGroups}
 use Rattle.taskset.specs.Levels.{levelsGiven}
+use Rattle.taskset.specs.Ceilings.{RightLevels}
 use Rattle.tasklist.specs.declared.Filled.{Filled}
 use Rattle.tasklist.specs.Lists.{fillGiven, filledList, firstOf}
 use Rattle.sheet.specs.Sheet.{sheetTasks}
@@ -67,11 +69,11 @@ use Rattle.tasklist.proofs.levels.Met as levels-thm
 use Rattle.tasklist.proofs.groups.Symbol as groups-def
 use Rattle.tasklist.proofs.groups.Met as groups-thm
 use Rattle.sheet.proofs.Gathered.{sheet-few}
+use Rattle.sheet.proofs.ListCalls.{asks, Read, reads}
 use Rattle.sheet.proofs.read_into.Symbol as read-def
 use Rattle.sheet.proofs.read_into.Met as read-thm
 use Rattle.lists_run.proofs.Listed as N
 use Rattle.lists_run.proofs.Listed.Laws as N′
-use Rattle.lists_run.proofs.Calls.{asks, Read, reads}
 use Rattle.lists_run.proofs.Marks.{marks-long, marks-apart, whole-long, beyond-marked}
 use Rattle.lists_run.proofs.by_list.Key.{name as #by-list}
 use Rattle.lists_run.proofs.by_list as f
@@ -147,8 +149,8 @@ module _ {M : Type 1} (𝓤 : URA M) (H : Heap 𝓤) (A : Atoms 𝓤) (W : Given
       nothing ! $ move ! (1 ∷ 0 ∷ []) $ join ! $ frame ! $ pureI ! (fsep ftrue (fsep ftrue ftrue)) (tt, (tt, tt)) (tt, (tt, tt)) $ frame ! $
       owned ! N.the-row (Is N.the-row) (LL.makes N.the-type N′.the-plain 𝓤 H A) all _ p $ done !
 
-  module _ (𝓣 : Tables 𝓤 H) (read : Triple 𝓤 (𝓣 .C read-def.name) (Read 𝓤 H A mem run)) (levelled : Triple 𝓤 (𝓣 .C levels-def.name) (Answers D.the-type levelsGiven 𝓤 H A))
-      (grouped : Triple 𝓤 (𝓣 .C groups-def.name) (Answers G.the-type groupsGiven 𝓤 H A)) where
+  module _ (𝓣 : Tables 𝓤 H) (read : Triple 𝓤 (𝓣 .C read-def.name) (Read 𝓤 H A mem run)) (levelled : Triple 𝓤 (𝓣 .C levels-def.name) (Answers D.the-type levelsGiven RightLevels 𝓤 H A))
+      (grouped : Triple 𝓤 (𝓣 .C groups-def.name) (Answers G.the-type groupsGiven RightGroups 𝓤 H A)) where
     walk : ent 𝓤 (onEntry 𝓤 H A f.signature (κ, tt) (q, tt) (y, (n, tt)) at) (WpFn 𝓤 H (𝓣 .C) (𝓣 .Λ) code.function (bv ∷ vint w64 n ∷ []) Post)
     unfolding mark
     walk =
@@ -188,19 +190,19 @@ module _ {M : Type 1} (𝓤 : URA M) (H : Heap 𝓤) (A : Atoms 𝓤) (W : Given
         assigns ! (addr ! (from ! (stop !))) (from ! (stop !)) (init ! 12 refl (tt, tt)) $
         assigns ! (agg ! (and-then ! (load ! (from ! (stop !)) (look ! 12 refl)) (and-then ! (load ! (from ! (stop !)) (look ! 28 refl)) (no-more !))))
         (from ! (stop !)) (init ! 10 refl (tt, (tt, (record { fits = n-fits }, tt)))) $
-        lift ! 26 $ asks D.the-type D′.lowers levelsGiven ! (fmOf 𝓤 H (W .laws) 𝓣) levelled left (answer .count) l₃ 0 n
+        lift ! 26 $ asks D.the-type D′.lowers levelsGiven RightLevels ! (fmOf 𝓤 H (W .laws) 𝓣) levelled left (answer .count) l₃ 0 n
         (same ∙ marks-long n) room count-fits
         (λ α γ. and-then ! (load ! (from ! (stop !)) (look ! 12 refl))
-        (and-then ! (load ! (from ! (fld ! refl (stop !))) (look-in ! 26 (sub ! 0 refl (whole !)))) (no-more !))) (λ p′. lay ! 26 $
+        (and-then ! (load ! (from ! (fld ! refl (stop !))) (look-in ! 26 (sub ! 0 refl (whole !)))) (no-more !))) (λ p′ _. lay ! 26 $
         land ! (from ! (stop !)) (init ! 22 refl (LL.lawful D.the-type D′.the-laws 𝓤 H A W .typed lev _ p′ .0)) $
         -- and with `groups`
         assigns ! (addr ! (from ! (stop !))) (from ! (stop !)) (init ! 8 refl (tt, tt)) $
         assigns ! (agg ! (and-then ! (load ! (from ! (stop !)) (look ! 8 refl)) (and-then ! (load ! (from ! (stop !)) (look ! 28 refl)) (no-more !))))
         (from ! (stop !)) (init ! 6 refl (tt, (tt, (record { fits = n-fits }, tt)))) $
-        lift ! 26 $ asks G.the-type G′.lowers groupsGiven ! (fmOf 𝓤 H (W .laws) 𝓣) grouped left (answer .count) l₃ 0 n
+        lift ! 26 $ asks G.the-type G′.lowers groupsGiven RightGroups ! (fmOf 𝓤 H (W .laws) 𝓣) grouped left (answer .count) l₃ 0 n
         (same ∙ marks-long n) room count-fits
         (λ α γ. and-then ! (load ! (from ! (stop !)) (look ! 8 refl))
-        (and-then ! (load ! (from ! (fld ! refl (stop !))) (look-in ! 26 (sub ! 0 refl (whole !)))) (no-more !))) (λ p″. lay ! 26 $
+        (and-then ! (load ! (from ! (fld ! refl (stop !))) (look-in ! 26 (sub ! 0 refl (whole !)))) (no-more !))) (λ p″ _. lay ! 26 $
         land ! (from ! (stop !)) (init ! 20 refl (LL.lawful G.the-type G′.the-laws 𝓤 H A W .typed grp _ p″ .0)) $
         -- the list is whole again, and the place after the tasks is read
         lift ! 26 $ rewrite ! 35 (λ (m : ℕ). ‵ (row R fullShare others l₃ (place 16 0 m))) (sym same) refl $ move ! (0 ∷ 35 ∷ []) $
@@ -257,5 +259,5 @@ by-list-spec 𝓤 H 𝓜 𝓖 𝓡 = by-walk 𝓤 H 𝓜 𝓖 𝓡 f.ended staye
     (tablesOf 𝓤 H 𝓜 (tables 𝓤 H 𝓜 𝓡 code.env))
     (cited 𝓤 H (Read 𝓤 H (𝓖 .A) (𝓜 .mem) (𝓡 .run)) 𝓜 𝓡 code.env read-def.name read-def.routine code.calls-sheet·read-into
     (read-thm.met 𝓤 H 𝓜 𝓖 𝓡))
-    (cited 𝓤 H (Answers D.the-type levelsGiven 𝓤 H (𝓖 .A)) 𝓜 𝓡 code.env levels-def.name levels-def.routine code.calls-tasklist·levels (levels-thm.met 𝓤 H 𝓜 𝓖 𝓡))
-    (cited 𝓤 H (Answers G.the-type groupsGiven 𝓤 H (𝓖 .A)) 𝓜 𝓡 code.env groups-def.name groups-def.routine code.calls-tasklist·groups (groups-thm.met 𝓤 H 𝓜 𝓖 𝓡))))
+    (cited 𝓤 H (Answers D.the-type levelsGiven RightLevels 𝓤 H (𝓖 .A)) 𝓜 𝓡 code.env levels-def.name levels-def.routine code.calls-tasklist·levels (levels-thm.met 𝓤 H 𝓜 𝓖 𝓡))
+    (cited 𝓤 H (Answers G.the-type groupsGiven RightGroups 𝓤 H (𝓖 .A)) 𝓜 𝓡 code.env groups-def.name groups-def.routine code.calls-tasklist·groups (groups-thm.met 𝓤 H 𝓜 𝓖 𝓡))))

@@ -7,10 +7,10 @@ use native.Mathlib.Omega.{arith}
 use lib.Seq.{length-take-le}
 use borrow.Author.Needs.{needs}
 use Rattle.taskset.specs.Tasks.{mostTasks, isTaskSet, standing}
-use Rattle.taskset.specs.Groups.{notGrouped}
-use Rattle.taskset.proofs.Typed.{tasks-long}
+use Rattle.taskset.proofs.Typed.{tasks-long, standing-words}
 use Rattle.taskset.proofs.TaskLaws.{standing-long, set-few}
 use Rattle.taskset.proofs.GroupTurns.{groups-given, groups-refused}
+use Rattle.taskset.proofs.Chains.{right-groups}
 use Rattle.taskset.proofs.contention.groups_of.Statement.{statement}
 use Rattle.taskset.proofs.contention.groups_of.Tie as tie
 
@@ -41,11 +41,13 @@ returns c =
     let passed = c .before .before .before .before in
     let s = passed .before .before .args .set in
     let long = standing-long s (tasks-long s _ (passed .before .before .good .0)) (few passed) in
-    groups-given (standing s) (s .count) long _ _ (valid passed) (c .before .before .before .cards-of .ensures) (c .before .join-groups .ensures)
+    right-groups (standing s) (standing-words s _ (passed .before .before .good .0)) _
+    (groups-given (standing s) (s .count) long _ _ (valid passed) (c .before .before .before .cards-of .ensures) (c .before .join-groups .ensures))
 
 returns-2 : tie.Need-returns-2
-unfolding notGrouped
-returns-2 c = groups-refused _ (sym (c .before .is-task-set .ensures) ∙ c .if1 .left)
+returns-2 c =
+    let s = c .before .before .args .set in
+    right-groups (standing s) (standing-words s _ (c .before .before .good .0)) _ (groups-refused _ (sym (c .before .is-task-set .ensures) ∙ c .if1 .left))
 
 pub groups-of-spec : {M : Type 1} → statement M
 groups-of-spec = tie.close (tie.spec is-task-set-requires cards-of-requires array-borrow-prefix-cards slice-aggregate-join-groups join-groups-requires returns returns-2)

@@ -9,10 +9,11 @@ use Rattle.taskset.specs.declared.Task.{Task}
 use Rattle.taskset.specs.Tasks.{mostTasks, deadlinesOf, cardsOf, standing}
 use Rattle.taskset.specs.Groups.{groupsOf}
 use Rattle.taskset.specs.Levels.{taskLevels, levelsOf, notLevelled}
-use Rattle.taskset.proofs.Typed.{tasks-long}
+use Rattle.taskset.proofs.Typed.{tasks-long, standing-words}
 use Rattle.taskset.proofs.TaskLaws.{set-few, standing-long, column-long}
 use Rattle.taskset.proofs.LevelList.{levels-fit, levels-long, levelled-made, is-levelled, not-levelled}
 use Rattle.taskset.proofs.GroupLaws.{groups-length}
+use Rattle.taskset.proofs.Ceilings.{right-levels}
 use native.Mathlib.Omega.{arith}
 use Rattle.taskset.proofs.preemption.levels_of.Statement.{statement}
 use Rattle.taskset.proofs.preemption.levels_of.Tie as tie
@@ -126,12 +127,15 @@ returns c =
     let start = c .before .before .before .before .before .before .before .before .before .before .before .before .before .before in
     let s = start .args .set in
     let long = levels-long (standing s) ∙ standing-long s (tasks-long s _ (start .good .0)) (few (c .before .before .before .before .before .before .before .before .before .before .before .before)) in
-    levelled-made (levelsOf (standing s)) (c .side-by-side .result) (s .count) (c .side-by-side .ensures) (sym long)
-    ∙ sym (is-levelled (standing s) (sym (c .before .before .before .before .before .before .before .before .before .before .before .before .before .is-task-set .ensures) ∙ c .before .before .before .before .before .before .before .before .before .before .before .before .if1 .taken))
+    right-levels (standing s) (standing-words s _ (start .good .0)) _
+    (levelled-made (levelsOf (standing s)) (c .side-by-side .result) (s .count) (c .side-by-side .ensures) (sym long)
+    ∙ sym (is-levelled (standing s) (sym (c .before .before .before .before .before .before .before .before .before .before .before .before .before .is-task-set .ensures) ∙ c .before .before .before .before .before .before .before .before .before .before .before .before .if1 .taken)))
 
 returns-2 : tie.Need-returns-2
 unfolding notLevelled
-returns-2 c = sym (not-levelled (standing (c .before .before .args .set)) (sym (c .before .is-task-set .ensures) ∙ c .if1 .left))
+returns-2 c =
+    let s = c .before .before .args .set in
+    right-levels (standing s) (standing-words s _ (c .before .before .good .0)) _ (sym (not-levelled (standing s) (sym (c .before .is-task-set .ensures) ∙ c .if1 .left)))
 
 pub levels-of-spec : {M : Type 1} → statement M
 levels-of-spec =

@@ -1,8 +1,10 @@
 -- `taskset::tasks::cards_of` meets its contract. The loop's invariant: the first i entries are those of the column, and the others are zeros.
 -- The measure is how many tasks are left.
 use mathlib.Core.Path.{_≡_, refl, sym, ap, _∙_}
-use Prim.Native.Nat.{_-_, _≤_}
-use lib.ListN.{length, length-map, List·getD-map}
+use mathlib.Core.List.{_++_}
+use Prim.Native.Nat.{ℕ, _-_, _≤_}
+use lib.ListN.{length, length-map, replicate, List·getD-map}
+use Rattle.objset.proofs.Laws.{none-zero}
 use borrow.Author.Needs.{needs}
 use Rattle.taskset.specs.declared.Task.{Task}
 use Rattle.taskset.specs.Tasks.{noTask, mostTasks, cardsOf, standing}
@@ -64,7 +66,9 @@ returns c =
     let start = at .before in
     let s = start .args .t1 in
     let last : at .loop .i ≡ s .count = omega arith in
-    rw last at (at .loop .inv .4) ∙ listed-whole 0 (cardsOf (standing s)) (s .count) (long start)
+    rw last at (at .loop .inv .4)
+    ∙ listed-whole 0 (cardsOf (standing s)) (s .count) (long start)
+    ∙ ap (λ (x : ℕ). cardsOf (standing s) ++ replicate (mostTasks - s .count) x) (sym none-zero)
 
 pub cards-of-spec : {M : Type 1} → statement M
 cards-of-spec =

@@ -39,14 +39,14 @@ use denote.Triple.Clauses.{ensured, lasts}
 use Rattle.taskset.specs.declared.Task.{Task}
 use Rattle.tasklist.specs.declared.Filled.{Filled}
 use Rattle.tasklist.specs.Lists.{fillGiven, filledList, firstOf}
 use Rattle.sheet.specs.Sheet.{sheetTasks}
 use Rattle.tasklist.proofs.Filled as F
 use Rattle.tasklist.proofs.Filled.Laws as F′
 use Rattle.tasklist.proofs.Walk.{lends-row, row-back, shares-row, shared-back}
 use Rattle.tasklist.proofs.TaskRow.{R}
 use Rattle.tasklist.proofs.TakenThen.{ended, clauses, Answers}
-use Rattle.sheet.proofs.read_into as read
-use Rattle.sheet.proofs.read_into.Symbol.{name as #read}
+use Rattle.sheet.proofs.lending.read_into as read
+use Rattle.sheet.proofs.lending.read_into.Symbol.{name as #read}
 
 -- what is shown for the value of a known answer e is shown for the value w that came
 answered : (D : Declared) (low : LL.Lowered D) (d : D .D) (w : Val) (e : D .D) → d ≡ e → Is (row′ D) d (w ∷ []) → (P : Val → Type 1)
@@ -63,7 +63,8 @@ answered D low d w e is p P shown =
 
 -- ---- a function that answers for the first n tasks of a list
 
-module _ (D : Declared) (low : LL.Lowered D) (given : List Task → D .D) where
+-- `given` is what it answers, and `right` what holds of it
+module _ (D : Declared) (low : LL.Lowered D) (given : List Task → D .D) (right : List Task → D .D → Type 0) where
   module _ {M : Type 1} (𝓤 : URA M) (H : Heap 𝓤) (A : Atoms 𝓤) (ys : List Task) (n : ℕ) (b o : ℕ) (α : ℕ) (γ : GName) where
     abbrev x : RefT (List Task)
     x = record { ptr = (b, o); name = γ; now = ys }
@@ -71,11 +72,11 @@ module _ (D : Declared) (low : LL.Lowered D) (given : List Task → D .D) where
     abbrev s : Val
     s = sliceVal (b, o) (length ys)
 
-    abbrev pub to-ask : Answers D given 𝓤 H A .Ghost
+    abbrev pub to-ask : Answers D given right 𝓤 H A .Ghost
     to-ask = (((α ∷ [], tt), (fullShare, tt), tt, (x, (n, tt)), (s ∷ [], (vint w64 n ∷ [], tt))), tt)
 
     goes : Given 𝓤 H A → n < 2 ^ 64
-        → ent 𝓤 (sep 𝓤 (A .lft (α ∷ []) fullShare) (sem 𝓤 H A (ShrSlice (named 0) (α ∷ []) R .own x (s ∷ [])))) (Answers D given 𝓤 H A .pre to-ask)
+        → ent 𝓤 (sep 𝓤 (A .lft (α ∷ []) fullShare) (sem 𝓤 H A (ShrSlice (named 0) (α ∷ []) R .own x (s ∷ [])))) (Answers D given right 𝓤 H A .pre to-ask)
     goes W fits =
         qed W (‵ (flft (α ∷ []) fullShare) ∷ ‵ (ShrSlice (named 0) (α ∷ []) R .own x (s ∷ [])) ∷ []) ∵
         nothing ! $ move ! (1 ∷ 0 ∷ []) $ join ! $ nothing ! $ nothing ! $ owned ! usize (Is usize) (uint-makes 𝓤 H A W w64) n _ (refl, fits) $
@@ -84,30 +85,32 @@ module _ (D : Declared) (low : LL.Lowered D) (given : List Task → D .D) where
 
   module _ {M : Type 1} {𝓤 : URA M} {H : Heap 𝓤} {A : Atoms 𝓤} {K : Type 0} {W : Given 𝓤 H A} {Γ : List (Item 𝓤)} {E : Env 𝓤 H} {C : Calls 𝓤 H}
       {Λ : Loops 𝓤 H} {q : Post 𝓤 H} where
-    pub asks : K → FmC 𝓤 H (W .laws) C → {k : Name} → Triple 𝓤 (C k) (Answers D given 𝓤 H A) → (ys : List Task) (n b o m : ℕ) → length ys ≡ m → Room R m
+    pub asks : K → FmC 𝓤 H (W .laws) C → {k : Name} → Triple 𝓤 (C k) (Answers D given right 𝓤 H A) → (ys : List Task) (n b o m : ℕ) → length ys ≡ m → Room R m
         → n < 2 ^ 64 → {xs : List Operand} {at : Place} {rest : Body}
-        → ((α : ℕ) (γ : GName) → Opds K W (raw (Answers D given 𝓤 H A .pre (to-ask 𝓤 H A ys n b o α γ)) ∷
+        → ((α : ℕ) (γ : GName) → Opds K W (raw (Answers D given right 𝓤 H A .pre (to-ask 𝓤 H A ys n b o α γ)) ∷
         ‵ (flent (α ∷ []) (arr-parts (shares R) (length ys) .part fullShare ys b o)) ∷ Γ) E xs (sliceVal (b, o) m ∷ vint w64 n ∷ []))
-        → (Is (row′ D) (given (firstOf n ys)) (low .lowered (given (firstOf n ys)) ∷ [])
+        → (Is (row′ D) (given (firstOf n ys)) (low .lowered (given (firstOf n ys)) ∷ []) → right (firstOf n ys) (given (firstOf n ys))
         → Seq K W (‵ (row R fullShare ys b o) ∷ Γ) (lands C Λ E at (low .lowered (given (firstOf n ys))) rest q))
         → Seq K W (‵ (row R fullShare ys b o) ∷ Γ) (runs C Λ E (seq (call k xs at) rest) q)
     asks t fm known ys n b o m long room fits {xs} {at} {rest} os next =
         shares-row t tt R (named 0) ys b o (subst (Room R) (sym long) room) (λ α γ.
-        use2 W (raw (Answers D given 𝓤 H A .pre (to-ask 𝓤 H A ys n b o α γ))) (goes 𝓤 H A ys n b o α γ W fits) $
-        calls-at t fm (Answers D given 𝓤 H A) known (to-ask 𝓤 H A ys n b o α γ)
-        (subst (λ (j : ℕ). Opds K W (raw (Answers D given 𝓤 H A .pre (to-ask 𝓤 H A ys n b o α γ)) ∷
+        use2 W (raw (Answers D given right 𝓤 H A .pre (to-ask 𝓤 H A ys n b o α γ))) (goes 𝓤 H A ys n b o α γ W fits) $
+        calls-at t fm (Answers D given right 𝓤 H A) known (to-ask 𝓤 H A ys n b o α γ)
+        (subst (λ (j : ℕ). Opds K W (raw (Answers D given right 𝓤 H A .pre (to-ask 𝓤 H A ys n b o α γ)) ∷
         ‵ (flent (α ∷ []) (arr-parts (shares R) (length ys) .part fullShare ys b o)) ∷ Γ) E xs (sliceVal (b, o) j ∷ vint w64 n ∷ []))
         (sym long) (os α γ)) (λ w.
         use1 W (later (some (λ (d : D .D).
-        ((‵ (flft (α ∷ []) fullShare) ⊛ ‵ ftrue) ⊛ ‵ (row′ D .own d (w ∷ []))) ⊛ raw (ensured 𝓤 H A (ended D given)
-        (clauses D given 𝓤) (α ∷ [], tt) (to-ask 𝓤 H A ys n b o α γ .0 .3) tt d)))) (id⊢ 𝓤 _) $
+        ((‵ (flft (α ∷ []) fullShare) ⊛ ‵ ftrue) ⊛ ‵ (row′ D .own d (w ∷ []))) ⊛ raw (ensured 𝓤 H A (ended D given right)
+        (clauses D given right 𝓤) (α ∷ [], tt) (to-ask 𝓤 H A ys n b o α γ .0 .3) tt d)))) (id⊢ 𝓤 _) $
         await t tt $ pick t (λ d. split t $ move t (1 ∷ []) $
-        use1 W (some (λ (us : Unit {0} × (Unit {0} × Unit {0})). ‵ (lasts (ended D given) (α ∷ [], tt)
-        (to-ask 𝓤 H A ys n b o α γ .0 .3) us) ⊛ raw (fact 𝓤 (d ≡ given (firstOf n ys))))) (id⊢ 𝓤 _) $
-        pick t (λ _. split t $ move t (1 ∷ []) $ heard t (d ≡ given (firstOf n ys)) (λ is. drop t $ split t $ split t $ move t (2 ∷ []) $
+        use1 W (some (λ (us : Unit {0} × (Unit {0} × Unit {0})). ‵ (lasts (ended D given right) (α ∷ [], tt)
+        (to-ask 𝓤 H A ys n b o α γ .0 .3) us) ⊛ (raw (fact 𝓤 (d ≡ given (firstOf n ys))) ⊛ raw (fact 𝓤 (right (firstOf n ys) d))))) (id⊢ 𝓤 _) $
+        pick t (λ _. split t $ move t (1 ∷ []) $ split t $ heard t (d ≡ given (firstOf n ys)) (λ is. heard t (right (firstOf n ys) d) (λ holds.
+        drop t $ split t $ split t $ move t (2 ∷ []) $
         facts t (row′ D) (Is (row′ D)) (shows 𝓤 H A (row′ D)) d (w ∷ []) (λ p. move t (0 ∷ 2 ∷ []) $ shared-back t tt R (length ys) ys b o $
         move t (1 ∷ []) $ drop t $ answered D low d w (given (firstOf n ys)) is p
-        (λ (u : Val). Seq K W (‵ (row R fullShare ys b o) ∷ Γ) (lands C Λ E at u rest q)) next))))))
+        (λ (u : Val). Seq K W (‵ (row R fullShare ys b o) ∷ Γ) (lands C Λ E at u rest q))
+        (λ is′. next is′ (subst (right (firstOf n ys)) is holds)))))))))
 
 -- ---- the sheet reader
 
