@@ -2,6 +2,7 @@
 // hands in what does not fit, and prints the number of each refusal: nothing is lost by them. `piece_end` and `show` ask that
 // what they are told of is there.
 use libc::STDOUT_FILENO;
+use machine::Machine;
 use runner::Reading;
 ghost use Prim.Native.Nat.{_+_, _≤_, _<_};
 ghost use lib.ListN.{length};
@@ -94,6 +95,10 @@ fn refused(reading: Reading) {
     r = reading;
     let mut m = r.machine;
     m.tickets = 9;
+    r.machine = m;
+    end(r, &mut committed, &mut pending, &mut text);
+    m = Machine::blank();
+    m.commits = 9;
     r.machine = m;
     end(r, &mut committed, &mut pending, &mut text);
 }

@@ -19,11 +19,14 @@ use Rattle.machine.specs.Record.{tally}
 use Rattle.machine.specs.Sound.{inRange, setsWithin, ownerListed, idleClear, zombieEmpty, fewJobs, unusedJobs, lackedCores, lackedObjects, ownerFirst, ticketsDiffer, ticketsGiven, ticketsCounted, versionsBounded, smallerTickets, abortsBounded, sound}
 use Rattle.machine.specs.Rule.{World, unless, unlessLent, setup, released, release, begun, begin, setBackTold, accessRefusal, valueRead, valued, read, written, write, contender, blocked, leastBy, cleared, changed, through, commitRefusal, commit, ended, giveUp, finished, finish, rule}
 use Rattle.machine.specs.Words.{Event, Deed, begins, amounts, deeds, inProgress, births, born, any, touched, wrote, crosses, attempt}
-use Rattle.machine.specs.Rounds.{among, isRound, Rounds, no-round, between, one-round, Fate, in-progress, committed, given-up, fate, AtMost}
+use Rattle.machine.specs.Rounds.{among, isRound, Rounds, Fate, in-progress, committed, given-up, fate, AtMost}
 use Rattle.machine.specs.Claims.{Run}
 use Rattle.machine.proofs.Run.WholeRun.{whole-run}
-use Rattle.examples_run.proofs.Played.{calls, played, start, opening, tight, last}
-use Rattle.examples_run.proofs.AfterRounds.{After, skip, place, coreBegun, begunBelow, short, allShort, allRounds, fits, fitting}
+use Rattle.machine.proofs.Run.ShortAttempts.{coreBegun, begunBelow, short, allShort}
+use Rattle.machine.proofs.Run.CountedRounds.{allRounds, fewer}
+use Rattle.machine.proofs.Run.EveryList.{played}
+use Rattle.examples_run.proofs.Played.{calls, start, opening, tight, last}
+use Rattle.examples_run.proofs.AfterRounds.{After, place, fits, fitting}
 use Rattle.examples_run.proofs.TightRuns.{on, again, opened, served, allServed, callsFor, roundsFor, total}
 
 -- ---- bounds
@@ -46,15 +49,6 @@ pub bound-is-enough : Enough (λ k l. (k + 1) * (l + 2))
 bound-is-enough cores objects cards pending ready es w run = whole-run cores objects cards pending ready run .served .within-rounds
 
 -- ---- a bound that holds of every run exceeds the rounds after which some T is still in progress
-
-pub fewer : {t : ℕ} {start : List Deed} {n : ℕ} {h : List Deed} → Rounds t start n h → (m : ℕ) → m ≤ n → Rounds t start m h
-fewer {t} {start} no-round m l = let none : m ≡ 0 = omega arith in rw none no-round
-fewer (between x r) m l = between x (fewer r m l)
-fewer {t} {start} (one-round {n = n} {h = h} stretch r e) m l = go (leb m n) refl (λ below. fewer r m below)
-  where
-    go : (b : Bool) → leb m n ≡ b → (m ≤ n → Rounds t start m h) → Rounds t start m (stretch ++ h)
-    go true q more = skip t m start stretch (more (leb-true m n q))
-    go false q more = let all : m ≡ suc n = omega (arith, leb-false m n q) in rw all (one-round stretch r e)
 
 in-progress-is-not : (f : Fate) → in-progress ≡ f → (f ≡ committed → ⊥) × (f ≡ given-up → ⊥)
 in-progress-is-not f e =

@@ -1,10 +1,11 @@
 -- The starred examples of document 01, K, and the cases of papers 1 and 4, as one table: a setup, the calls after it with their answers, and the cards
 -- at the end. One computed test proves the whole table.
-use mathlib.Core.Path.{_≡_, refl}
+use mathlib.Core.Path.{_≡_, refl, ap₂}
 use mathlib.Core.Bool.{Bool, true, _&&_}
 use mathlib.Core.List.{List, [], _∷_, _++_}
 use Prim.Native.Nat.{ℕ, zero, suc, _+_, _*_}
 use lib.ListN.{replicate}
+use Rattle.objset.proofs.Laws.{both-left, both-right}
 use Rattle.objset.specs.Objset.{has, collect, some, each, none, isEmpty, added, joined, meeting, below}
 use Rattle.core.specs.declared.Answer.{Answer}
 use Rattle.core.specs.declared.Answer.the-variants.{Ready, Running, Queued, Begun, Value, Written, Waits, Committed, SetBack, Ended, Finished, Refused}
@@ -118,7 +119,7 @@ exampleF =
     }
 
 -- two jobs released on two cores and a transaction begun for each
-bothBegun : List Expected
+unfoldable pub bothBegun : List Expected
 bothBegun = (Release 0 1 90 ⇝ Running) ∷ (Release 1 2 90 ⇝ Running) ∷ (Begin 0 ⇝ Begun 0) ∷ (Begin 1 ⇝ Begun 1) ∷ []
 
 -- a later writer of a card that the earlier one has not touched commits first
@@ -143,6 +144,23 @@ exampleH =
       calls =
           bothBegun ++ ((Read 0 0 ⇝ Value 0 0) ∷ (Read 1 0 ⇝ Value 0 0) ∷ (Commit 1 ⇝ Committed 0) ∷ (Commit 0 ⇝ Committed 0) ∷ []);
       cards = 0 ∷ [];
+    }
+
+-- two that read one card and write two others: neither waits and neither is struck, whoever commits first. The readers of ★H are
+-- read-only, so that they commit whether reading is a conflict or not (document 02, paper 4)
+unfoldable pub sharedRead : Example
+sharedRead =
+    record {
+      cores = 2;
+      objects = 3;
+      ready = Ready;
+      calls =
+          bothBegun
+          ++ ((Read 0 0 ⇝ Value 0 0) ∷ (Read 1 0 ⇝ Value 0 0) ∷ (Write 0 1 5 ⇝ Written) ∷ (Write 1 2 6 ⇝ Written)
+          ∷ (Commit 1 ⇝ Committed 0) ∷ (Commit 0 ⇝ Committed 0) ∷ (Begin 0 ⇝ Begun 2) ∷ (Begin 1 ⇝ Begun 3)
+          ∷ (Read 0 0 ⇝ Value 0 0) ∷ (Read 1 0 ⇝ Value 0 0) ∷ (Write 0 1 7 ⇝ Written) ∷ (Write 1 2 8 ⇝ Written)
+          ∷ (Commit 0 ⇝ Committed 0) ∷ (Commit 1 ⇝ Committed 0) ∷ []);
+      cards = 0 ∷ 7 ∷ 8 ∷ [];
     }
 
 -- a marked core reads card 64 of 64: refusal 5, and its next read finds the mark kept
@@ -225,8 +243,8 @@ display =
     }
 
 -- the display is begun before the core that writes what it has read is through: it is told, reads again and commits, with one setback
-markedLooker : Example
-markedLooker =
+markedReadOnly : Example
+markedReadOnly =
     record {
       cores = 2;
       objects = 2;
@@ -251,7 +269,7 @@ markedTwice =
       cards = 5 ∷ 0 ∷ [];
     }
 
--- a later writer of a card that earlier ones have only looked at waits for them, for the one on core 2 first; one of them commits past
+-- a later writer of a card that earlier ones have only read waits for them, for the one on core 2 first; one of them commits past
 -- the writer, and past the other
 laterWriter : Example
 laterWriter =
@@ -266,7 +284,7 @@ laterWriter =
       cards = 5 ∷ [];
     }
 
--- the one on core 1 has written and waits; set back, it comes back as one that only looks, and commits past the one on core 2, which has
+-- the one on core 1 has written and waits; set back, it comes back as a read-only one, and commits past the one on core 2, which has
 -- written what it reads
 wroteBefore : Example
 wroteBefore =
@@ -293,7 +311,7 @@ didNothing =
       cards = 5 ∷ [];
     }
 
--- one that wrote the value which the card already had does not only look: it waits, and its commit raises the version
+-- one that wrote the value which the card already had is not read-only: it waits, and its commit raises the version
 sameValue : Example
 sameValue =
     record {
@@ -307,12 +325,36 @@ sameValue =
       cards = 0 ∷ [];
     }
 
+-- the table in three parts, each computed by itself
+limits : List Example
+limits = (exampleA ∷ exampleB) ++ exampleC ++ (exampleD ∷ exampleE ∷ [])
+
+conflicts : List Example
+conflicts = exampleF ∷ exampleG ∷ exampleH ∷ sharedRead ∷ exampleI ∷ exampleJ ∷ exampleK ∷ firstInTheWay ∷ []
+
+readOnly : List Example
+readOnly = display ∷ markedReadOnly ∷ markedTwice ∷ laterWriter ∷ wroteBefore ∷ didNothing ∷ sameValue ∷ []
+
+limits-hold : allHold limits ≡ true
+unfolding limits exampleA refusedSetup acceptedSetup exampleB exampleC exampleD exampleE allHold holds follows rule setup first unless unlessLent released release begun begin setBackTold accessRefusal valueRead valued read written write contender blocked leastBy struckBy cleared changed through commitRefusal commit ended giveUp finished finish kind values sameList sameAnswer tally least running inRange setsWithin ownerListed idleClear zombieEmpty fewJobs unusedJobs lackedCores lackedObjects ownerFirst ticketsDiffer ticketsGiven ticketsCounted versionsBounded smallerTickets abortsBounded sound has collect some each none isEmpty added joined meeting below
+limits-hold = refl
+
+conflicts-hold : allHold conflicts ≡ true
+unfolding conflicts exampleF bothBegun exampleG exampleH sharedRead exampleI exampleJ exampleK firstInTheWay allHold holds follows rule setup first unless unlessLent released release begun begin setBackTold accessRefusal valueRead valued read written write contender blocked leastBy struckBy cleared changed through commitRefusal commit ended giveUp finished finish kind values sameList sameAnswer tally least running inRange setsWithin ownerListed idleClear zombieEmpty fewJobs unusedJobs lackedCores lackedObjects ownerFirst ticketsDiffer ticketsGiven ticketsCounted versionsBounded smallerTickets abortsBounded sound has collect some each none isEmpty added joined meeting below
+conflicts-hold = refl
+
+read-only-hold : allHold readOnly ≡ true
+unfolding readOnly bothBegun each-card display markedReadOnly markedTwice laterWriter wroteBefore didNothing sameValue allHold holds follows rule setup first unless unlessLent released release begun begin setBackTold accessRefusal valueRead valued read written write contender blocked leastBy struckBy cleared changed through commitRefusal commit ended giveUp finished finish kind values sameList sameAnswer tally least running inRange setsWithin ownerListed idleClear zombieEmpty fewJobs unusedJobs lackedCores lackedObjects ownerFirst ticketsDiffer ticketsGiven ticketsCounted versionsBounded smallerTickets abortsBounded sound has collect some each none isEmpty added joined meeting below
+read-only-hold = refl
+
+join : (xs ys : List Example) → allHold xs ≡ true → allHold ys ≡ true → allHold (xs ++ ys) ≡ true
+unfolding allHold
+join [] ys e f = f
+join (x ∷ xs) ys e f = ap₂ _&&_ (both-left (holds x) (allHold xs) e) (join xs ys (both-right (holds x) (allHold xs) e) f)
+
 pub examples : List Example
-examples =
-    (exampleA ∷ exampleB) ++ exampleC
-    ++ (exampleD ∷ exampleE ∷ exampleF ∷ exampleG ∷ exampleH ∷ exampleI ∷ exampleJ ∷ exampleK ∷ firstInTheWay ∷ [])
-    ++ (display ∷ markedLooker ∷ markedTwice ∷ laterWriter ∷ wroteBefore ∷ didNothing ∷ sameValue ∷ [])
+examples = limits ++ (conflicts ++ readOnly)
 
 pub all-hold : allHold examples ≡ true
-unfolding examples exampleA refusedSetup acceptedSetup exampleB exampleC exampleD exampleE exampleF bothBegun exampleG exampleH exampleI exampleJ exampleK firstInTheWay each-card display markedLooker markedTwice laterWriter wroteBefore didNothing sameValue allHold holds follows rule setup first unless unlessLent released release begun begin setBackTold accessRefusal valueRead valued read written write contender blocked leastBy struckBy cleared changed through commitRefusal commit ended giveUp finished finish kind values sameList sameAnswer tally least running inRange setsWithin ownerListed idleClear zombieEmpty fewJobs unusedJobs lackedCores lackedObjects ownerFirst ticketsDiffer ticketsGiven ticketsCounted versionsBounded smallerTickets abortsBounded sound has collect some each none isEmpty added joined meeting below
-all-hold = refl
+unfolding examples
+all-hold = join limits (conflicts ++ readOnly) limits-hold (join conflicts readOnly conflicts-hold read-only-hold)

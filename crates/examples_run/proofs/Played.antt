@@ -1,6 +1,6 @@
 -- A list of calls with answers, oldest first, as a run: played by the rule, the calls get these answers. Two lists: case A of
 -- document 01, and a tight run, in which a transaction stays in progress as long as the claim lets it.
-use mathlib.Core.Path.{_≡_, refl, ap, subst}
+use mathlib.Core.Path.{_≡_, refl}
 use mathlib.Core.List.{List, [], _∷_, _++_, map}
 use Prim.Native.Nat.{ℕ, _*_}
 use lib.ListN.{replicate}
@@ -11,25 +11,10 @@ use Rattle.core.specs.Calls.{first}
 use Rattle.core.specs.Life.{struckBy}
 use Rattle.machine.specs.Record.{tally}
 use Rattle.machine.specs.Sound.{inRange, setsWithin, ownerListed, idleClear, zombieEmpty, fewJobs, unusedJobs, lackedCores, lackedObjects, ownerFirst, ticketsDiffer, ticketsGiven, ticketsCounted, versionsBounded, smallerTickets, abortsBounded, sound}
-use Rattle.machine.specs.Rule.{World, Result, Call, Release, Begin, Read, Write, Commit, GiveUp, unless, unlessLent, setup, released, release, begun, begin, setBackTold, accessRefusal, valueRead, valued, read, written, write, contender, blocked, leastBy, cleared, changed, through, commitRefusal, commit, ended, giveUp, finished, finish, rule}
+use Rattle.machine.specs.Rule.{World, Call, Release, Begin, Read, Write, Commit, GiveUp, unless, unlessLent, setup, released, release, begun, begin, setBackTold, accessRefusal, valueRead, valued, read, written, write, contender, blocked, leastBy, cleared, changed, through, commitRefusal, commit, ended, giveUp, finished, finish, rule}
 use Rattle.machine.specs.Words.{Event}
-use Rattle.machine.specs.Claims.{Run, fresh, then}
+use Rattle.machine.proofs.Run.EveryList.{played}
 use Rattle.examples_run.proofs.Examples.{Expected, _⇝_, exampleA}
-
--- the events, newest first, of calls played from the world w: each gets the answer that the rule gives
-unfoldable pub played : World → List Event → List Call → List Event
-played w es [] = es
-played w es (x ∷ xs) =
-    let r : Result = rule w x in
-    played (r .world) (record { call = x; answer = r .answer } ∷ es) xs
-
--- what is played is a run
-pub played-runs : (w₀ w : World) (es : List Event) → Run w₀ es w → (xs : List Call) → (w′ : World) × Run w₀ (played w es xs) w′
-unfolding played
-played-runs w₀ w es run [] = (w, run)
-played-runs w₀ w es run (x ∷ xs) =
-    let r : Result = rule w x in
-    played-runs w₀ (r .world) (record { call = x; answer = r .answer } ∷ es) (then x (r .answer) run (record { answer-is = refl; world-is = refl })) xs
 
 -- of calls with their answers, oldest first: the calls, and the events, newest first
 abbrev pub calls : List Expected → List Call

@@ -6,7 +6,7 @@ use mathlib.Core.List.{List, [], _∷_, _++_}
 use Prim.Native.Nat.{ℕ, zero, suc, _-_}
 use lib.Dec.{eqb}
 use lib.ListN.{length, replicate}
-use Rattle.objset.specs.Objset.{has, each, below}
+use Rattle.objset.specs.Objset.{has, collect, some, each, none, isEmpty, below}
 use Rattle.machine.specs.declared.Machine.{Machine}
 use Rattle.core.specs.declared.Core.{Core}
 use Rattle.core.specs.declared.Job.{Job}
@@ -186,5 +186,5 @@ table =
     ∷ []
 
 pub each-rule-alone : allHold 0 table ≡ true
-unfolding tests allPass onlyFails holds allHold listed unnumbered job busy left machine givenUp row oneCore noTicket fresh second table inRange setsWithin ownerListed idleClear zombieEmpty fewJobs unusedJobs lackedCores lackedObjects ownerFirst ticketsDiffer ticketsGiven ticketsCounted versionsBounded smallerTickets abortsBounded sound tally has each below
+unfolding tests allPass onlyFails holds allHold listed unnumbered job busy left machine givenUp row oneCore noTicket fresh second table inRange setsWithin ownerListed idleClear zombieEmpty fewJobs unusedJobs lackedCores lackedObjects ownerFirst ticketsDiffer ticketsGiven ticketsCounted versionsBounded smallerTickets abortsBounded sound tally has collect some each none isEmpty below
 each-rule-alone = refl

@@ -16,8 +16,8 @@ unfoldable pub again : ℕ → List Call → List Call
 again zero xs = []
 again (suc n) xs = xs ++ again n xs
 
-abbrev pub look : ℕ → Call
-look i = Read i 0
+abbrev pub reading : ℕ → Call
+reading i = Read i 0
 
 abbrev pub put : ℕ → Call
 put i = Write i 0 6
@@ -25,7 +25,7 @@ put i = Write i 0 6
 -- cores 0 to k, one card. X on core 0 strikes those k, which have read the card, and is through; then T is begun on core 0
 unfoldable pub opened : ℕ → List Call
 opened k =
-    on (λ i. Release i 1 90) 0 (k + 1) ++ on Begin 0 (k + 1) ++ on look 1 k ++ (Write 0 0 5 ∷ Commit 0 ∷ Begin 0 ∷ [])
+    on (λ i. Release i 1 90) 0 (k + 1) ++ on Begin 0 (k + 1) ++ on reading 1 k ++ (Write 0 0 5 ∷ Commit 0 ∷ Begin 0 ∷ [])
 
 -- the eldest is on core i, n of those k come after it: all are told (T, where it was not struck, writes); the eldest writes l times, while the
 -- others write, so that they have to wait; and commits, which strikes them
@@ -42,7 +42,7 @@ allServed l i (suc n) = served l i n ++ allServed l (suc i) n
 
 -- and T is told, and reads l times
 unfoldable pub callsFor : ℕ → ℕ → List Call
-callsFor k l = opened k ++ allServed l 1 k ++ again (l + 1) (look 0 ∷ [])
+callsFor k l = opened k ++ allServed l 1 k ++ again (l + 1) (reading 0 ∷ [])
 
 -- the lengths of the rounds, newest first: while n of those k are in progress, a call by each and by T
 unfoldable pub roundsFor : ℕ → ℕ → List ℕ

@@ -1,4 +1,5 @@
--- The words of demands 2 and 3, computed call by call over two runs of two cores: case A of document 01 and a tight run (Played.antt).
+-- The words of demands 2 and 3, computed call by call over three runs of two cores: case A of document 01, two that read one card and write
+-- two others (Examples.antt), and a tight run (Played.antt).
 -- What each word says stands there as it is worked by hand from document 01; each table is one computed test.
 use mathlib.Core.Path.{_≡_, refl}
 use mathlib.Core.Bool.{Bool, true, false, cond, _&&_}
@@ -12,7 +13,7 @@ use Rattle.machine.specs.Record.{tally}
 use Rattle.machine.specs.Words.{Deed, begins, reads, writes, waits, commits, told, gives, other, amounts, deeds, inProgress, births, born, ahead, any, touched, wrote, crosses, attempt, strikes, conflict, struck, setBacks, wroteNothing}
 use Rattle.machine.specs.Rounds.{among, isRound}
 use Rattle.machine.specs.Serial.{effect, replays, serial, stood, settled, version}
-use Rattle.examples_run.proofs.Examples.{Expected, exampleA}
+use Rattle.examples_run.proofs.Examples.{Expected, exampleA, bothBegun, sharedRead}
 use Rattle.examples_run.proofs.Played.{events, opening, tight, last, afterwards, tightRun}
 
 -- a core after a call: nobody is in progress, or one
@@ -120,6 +121,44 @@ pub words-of-a : rows 2 [] (exampleA .calls) ≡ tableA
 unfolding exampleA tableA those listed stations here rowAt rows kind values amounts tally some any inProgress births born ahead touched wrote crosses attempt conflict struck setBacks effect replays serial stood settled version
 words-of-a = refl
 
+-- the same of the two that read one card: they are never in conflict, and no commit strikes anybody
+pub tableShared : List Row
+tableShared =
+    row other nobody nobody false [] (0 ∷ 0 ∷ 0 ∷ []) (0 ∷ 0 ∷ 0 ∷ [])
+    ∷ row other nobody nobody false [] (0 ∷ 0 ∷ 0 ∷ []) (0 ∷ 0 ∷ 0 ∷ [])
+    ∷ row (begins 0) (going 0 0 0 0 [] (true ∷ [])) nobody false [] (0 ∷ 0 ∷ 0 ∷ []) (0 ∷ 0 ∷ 0 ∷ [])
+    ∷ row (begins 1) (going 0 0 0 0 [] (true ∷ [])) (going 1 1 0 0 [] (true ∷ [])) false [] (0 ∷ 0 ∷ 0 ∷ []) (0 ∷ 0 ∷ 0 ∷ [])
+    ∷ row (reads 0 0 0) (going 0 0 0 0 (reads 0 0 0 ∷ []) (true ∷ [])) (going 1 1 0 0 [] (true ∷ [])) false []
+    (0 ∷ 0 ∷ 0 ∷ []) (0 ∷ 0 ∷ 0 ∷ [])
+    ∷ row (reads 1 0 0) (going 0 0 0 0 (reads 0 0 0 ∷ []) (true ∷ [])) (going 1 1 0 0 (reads 1 0 0 ∷ []) (true ∷ [])) false []
+    (0 ∷ 0 ∷ 0 ∷ []) (0 ∷ 0 ∷ 0 ∷ [])
+    ∷ row (writes 0 1 5) (going 0 0 0 0 (writes 0 1 5 ∷ reads 0 0 0 ∷ []) (true ∷ []))
+    (going 1 1 0 0 (reads 1 0 0 ∷ []) (true ∷ [])) false [] (0 ∷ 0 ∷ 0 ∷ []) (0 ∷ 0 ∷ 0 ∷ [])
+    ∷ row (writes 1 2 6) (going 0 0 0 0 (writes 0 1 5 ∷ reads 0 0 0 ∷ []) (true ∷ []))
+    (going 1 1 0 0 (writes 1 2 6 ∷ reads 1 0 0 ∷ []) (true ∷ [])) false [] (0 ∷ 0 ∷ 0 ∷ []) (0 ∷ 0 ∷ 0 ∷ [])
+    ∷ row (commits 1 0) (going 0 0 0 0 (writes 0 1 5 ∷ reads 0 0 0 ∷ []) (true ∷ true ∷ [])) nobody false []
+    (0 ∷ 0 ∷ 6 ∷ []) (0 ∷ 0 ∷ 1 ∷ [])
+    ∷ row (commits 0 0) nobody nobody false [] (0 ∷ 5 ∷ 6 ∷ []) (0 ∷ 1 ∷ 1 ∷ [])
+    ∷ row (begins 0) (going 2 0 0 0 [] (true ∷ true ∷ true ∷ [])) nobody false [] (0 ∷ 5 ∷ 6 ∷ []) (0 ∷ 1 ∷ 1 ∷ [])
+    ∷ row (begins 1) (going 2 0 0 0 [] (true ∷ true ∷ true ∷ [])) (going 3 1 0 0 [] (true ∷ true ∷ true ∷ [])) false []
+    (0 ∷ 5 ∷ 6 ∷ []) (0 ∷ 1 ∷ 1 ∷ [])
+    ∷ row (reads 0 0 0) (going 2 0 0 0 (reads 0 0 0 ∷ []) (true ∷ true ∷ true ∷ [])) (going 3 1 0 0 [] (true ∷ true ∷ true ∷ [])) false []
+    (0 ∷ 5 ∷ 6 ∷ []) (0 ∷ 1 ∷ 1 ∷ [])
+    ∷ row (reads 1 0 0) (going 2 0 0 0 (reads 0 0 0 ∷ []) (true ∷ true ∷ true ∷ []))
+    (going 3 1 0 0 (reads 1 0 0 ∷ []) (true ∷ true ∷ true ∷ [])) false [] (0 ∷ 5 ∷ 6 ∷ []) (0 ∷ 1 ∷ 1 ∷ [])
+    ∷ row (writes 0 1 7) (going 2 0 0 0 (writes 0 1 7 ∷ reads 0 0 0 ∷ []) (true ∷ true ∷ true ∷ []))
+    (going 3 1 0 0 (reads 1 0 0 ∷ []) (true ∷ true ∷ true ∷ [])) false [] (0 ∷ 5 ∷ 6 ∷ []) (0 ∷ 1 ∷ 1 ∷ [])
+    ∷ row (writes 1 2 8) (going 2 0 0 0 (writes 0 1 7 ∷ reads 0 0 0 ∷ []) (true ∷ true ∷ true ∷ []))
+    (going 3 1 0 0 (writes 1 2 8 ∷ reads 1 0 0 ∷ []) (true ∷ true ∷ true ∷ [])) false [] (0 ∷ 5 ∷ 6 ∷ []) (0 ∷ 1 ∷ 1 ∷ [])
+    ∷ row (commits 0 0) nobody (going 3 1 0 0 (writes 1 2 8 ∷ reads 1 0 0 ∷ []) (true ∷ true ∷ true ∷ true ∷ [])) false []
+    (0 ∷ 7 ∷ 6 ∷ []) (0 ∷ 2 ∷ 1 ∷ [])
+    ∷ row (commits 1 0) nobody nobody false [] (0 ∷ 7 ∷ 8 ∷ []) (0 ∷ 2 ∷ 2 ∷ [])
+    ∷ []
+
+pub words-of-shared : rows 3 [] (sharedRead .calls) ≡ tableShared
+unfolding bothBegun sharedRead tableShared those listed stations here rowAt rows kind values amounts tally some any inProgress births born ahead touched wrote crosses attempt conflict struck setBacks effect replays serial stood settled version
+words-of-shared = refl
+
 -- the same of the tight run, one card: X on core 0, E on core 1; then T on core 0; and what comes afterwards
 pub tableTight : List Row
 tableTight =
@@ -167,29 +206,39 @@ pub words-of-tight : rows 1 [] tightRun ≡ tableTight
 unfolding opening tight last afterwards tableTight those listed stations here rowAt rows kind values amounts tally some any inProgress births born ahead touched wrote crosses attempt conflict struck setBacks effect replays serial stood settled version
 words-of-tight = refl
 
--- ---- who only looks
+-- ---- who is read-only
 
 -- after each call, the cores whose transaction's present attempt has written nothing
-unfoldable pub lookers : List Deed → List Expected → List (List ℕ)
-lookers h [] = []
-lookers h (x ∷ xs) =
+unfoldable pub readOnly : List Deed → List Expected → List (List ℕ)
+readOnly h [] = []
+readOnly h (x ∷ xs) =
     let now : List Deed = amounts (x .call) (x .answer) ∷ h in
-    those mostCores (λ c. inProgress now c && wroteNothing (attempt now c)) ∷ lookers now xs
+    those mostCores (λ c. inProgress now c && wroteNothing (attempt now c)) ∷ readOnly now xs
 
 -- core 0 until it writes; core 1 until it writes, and again once it is struck
-pub lookersA : List (List ℕ)
-lookersA =
+pub readOnlyA : List (List ℕ)
+readOnlyA =
     [] ∷ [] ∷ (0 ∷ []) ∷ (0 ∷ 1 ∷ []) ∷ (0 ∷ 1 ∷ []) ∷ (1 ∷ []) ∷ [] ∷ [] ∷ (1 ∷ []) ∷ (1 ∷ []) ∷ (1 ∷ []) ∷ [] ∷ []
 
 -- X and E; T until it writes, E once it is struck and until it writes; T once it is struck, to its commit
-pub lookersTight : List (List ℕ)
-lookersTight =
+pub readOnlyTight : List (List ℕ)
+readOnlyTight =
     [] ∷ [] ∷ (0 ∷ []) ∷ (0 ∷ 1 ∷ []) ∷ (0 ∷ 1 ∷ []) ∷ (1 ∷ []) ∷ (1 ∷ []) ∷ (0 ∷ 1 ∷ []) ∷ (0 ∷ 1 ∷ []) ∷ (1 ∷ []) ∷ (1 ∷ []) ∷ [] ∷ [] ∷ []
     ∷ (0 ∷ []) ∷ (0 ∷ []) ∷ (0 ∷ []) ∷ [] ∷ []
 
-pub lookers-of-both : (lookers [] (exampleA .calls) ≡ lookersA) × (lookers [] (opening ++ tight ++ last) ≡ lookersTight)
-unfolding exampleA opening tight last lookersA lookersTight lookers those amounts kind values some any inProgress touched wrote wroteNothing crosses attempt
-lookers-of-both = (refl, refl)
+-- each until it writes, so that none is when it commits
+pub readOnlyShared : List (List ℕ)
+readOnlyShared =
+    [] ∷ [] ∷ (0 ∷ []) ∷ (0 ∷ 1 ∷ []) ∷ (0 ∷ 1 ∷ []) ∷ (0 ∷ 1 ∷ []) ∷ (1 ∷ []) ∷ [] ∷ [] ∷ [] ∷ (0 ∷ []) ∷ (0 ∷ 1 ∷ []) ∷ (0 ∷ 1 ∷ []) ∷ (0 ∷ 1 ∷ [])
+    ∷ (1 ∷ []) ∷ [] ∷ [] ∷ [] ∷ []
+
+pub read-only-of-both : (readOnly [] (exampleA .calls) ≡ readOnlyA) × (readOnly [] (opening ++ tight ++ last) ≡ readOnlyTight)
+unfolding exampleA opening tight last readOnlyA readOnlyTight readOnly those amounts kind values some any inProgress touched wrote wroteNothing crosses attempt
+read-only-of-both = (refl, refl)
+
+pub read-only-of-shared : readOnly [] (sharedRead .calls) ≡ readOnlyShared
+unfolding bothBegun sharedRead readOnlyShared readOnly those amounts kind values some any inProgress touched wrote wroteNothing crosses attempt
+read-only-of-shared = refl
 
 -- ---- rounds
 

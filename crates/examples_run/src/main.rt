@@ -2,6 +2,7 @@
 // the document's listing: a heading for each example, a line for each call.
 use crate::rows::COUNT;
 use crate::rows::Call;
+use crate::rows::ROWS;
 use crate::rows::Row;
 use crate::rows::row_at;
 use core::Answer;
@@ -29,8 +30,9 @@ fn main() {
     let mut pending = [7u32; PENDING_WORDS];
     // refused, setup hands back the blank record
     let mut machine = Machine::setup(0, 0, &mut committed, &mut pending).machine;
+    let rows = ROWS;
     for i in 0..COUNT {
-        machine = play(machine, row_at(i), &mut committed, &mut pending);
+        machine = play(machine, row_at(&rows, i), &mut committed, &mut pending);
     }
 }
 

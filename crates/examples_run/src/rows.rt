@@ -1,6 +1,7 @@
-// The examples of document 01 and of papers 1 and 4 as rows, and what a row stands for. A row is one number, the sum of a code and of the call's numbers,
-// each times its weight: a table of numbers is proved in a second, an array of arrays takes twenty. `row_at` asks for a row that is there.
-ghost use Prim.Native.Nat.{_<_};
+// The examples of document 01 and of papers 1 and 4 as rows, and what a row stands for. A row is one number, the sum of a code and of the
+// call's numbers, each times its weight: a table of numbers is proved in a second, an array of arrays takes twenty.
+ghost use mathlib.Core.Path.{_≡_};
+ghost use Rattle.examples_run.specs.Rows.{rowOf, rowAt};
 
 // The weights of a code, a core, a card and a value. A core or a card is below 256, a value below the weight of a card.
 const CODE: u64 = 1 << 56;
@@ -45,10 +46,10 @@ const SHOW_CARDS: u64 = 9 * CODE;
 const LARGEST: u64 = 4_294_967_295;
 
 // How many rows there are.
-pub const COUNT: usize = 258;
+pub const COUNT: usize = 278;
 
 // The examples, A to L, 1 and 4.
-const ROWS: [u64; COUNT] = [
+pub const ROWS: [u64; COUNT] = [
     // the run of the document's script; card 1 stays 0
     HEADING + b'A' as u64,
     SETUP + 2 * CORES + 2 * CARDS,
@@ -134,6 +135,27 @@ const ROWS: [u64; COUNT] = [
     READ + 1 * CORE + 0 * CARD,
     COMMIT + 1 * CORE,
     COMMIT + 0 * CORE,
+    // two that read one card and write two others: neither waits and neither is struck, whoever commits first
+    SETUP + 2 * CORES + 3 * CARDS,
+    RELEASE + 0 * CORE + 1 * JOB + 90 * DEADLINE,
+    RELEASE + 1 * CORE + 2 * JOB + 90 * DEADLINE,
+    BEGIN + 0 * CORE,
+    BEGIN + 1 * CORE,
+    READ + 0 * CORE + 0 * CARD,
+    READ + 1 * CORE + 0 * CARD,
+    WRITE + 0 * CORE + 1 * CARD + 5 * VALUE,
+    WRITE + 1 * CORE + 2 * CARD + 6 * VALUE,
+    COMMIT + 1 * CORE,
+    COMMIT + 0 * CORE,
+    BEGIN + 0 * CORE,
+    BEGIN + 1 * CORE,
+    READ + 0 * CORE + 0 * CARD,
+    READ + 1 * CORE + 0 * CARD,
+    WRITE + 0 * CORE + 1 * CARD + 7 * VALUE,
+    WRITE + 1 * CORE + 2 * CARD + 8 * VALUE,
+    COMMIT + 0 * CORE,
+    COMMIT + 1 * CORE,
+    SHOW_CARDS,
     // a marked core reads card 64 of 64: refused, and its next read finds the mark kept
     HEADING + b'I' as u64,
     SETUP + 2 * CORES + 64 * CARDS,
@@ -267,7 +289,7 @@ const ROWS: [u64; COUNT] = [
     COMMIT + 1 * CORE,
     COMMIT + 1 * CORE,
     SHOW_CARDS,
-    // a later writer waits for those who have looked at its card, core 2 first
+    // a later writer waits for those who have read its card, core 2 first
     SETUP + 3 * CORES + 1 * CARDS,
     RELEASE + 0 * CORE + 1 * JOB + 90 * DEADLINE,
     RELEASE + 1 * CORE + 2 * JOB + 90 * DEADLINE,
@@ -285,7 +307,7 @@ const ROWS: [u64; COUNT] = [
     COMMIT + 2 * CORE,
     COMMIT + 1 * CORE,
     SHOW_CARDS,
-    // one that wrote and was set back comes back as one that only looks
+    // one that wrote and was set back comes back as a read-only one
     SETUP + 3 * CORES + 2 * CARDS,
     RELEASE + 0 * CORE + 1 * JOB + 90 * DEADLINE,
     RELEASE + 1 * CORE + 2 * JOB + 90 * DEADLINE,
@@ -314,7 +336,7 @@ const ROWS: [u64; COUNT] = [
     COMMIT + 1 * CORE,
     COMMIT + 0 * CORE,
     SHOW_CARDS,
-    // one that wrote the value that the card had does not only look
+    // one that wrote the value that the card had is not read-only
     SETUP + 2 * CORES + 1 * CARDS,
     RELEASE + 0 * CORE + 1 * JOB + 90 * DEADLINE,
     RELEASE + 1 * CORE + 2 * JOB + 90 * DEADLINE,
@@ -351,15 +373,21 @@ pub enum Row {
     Malformed,
 }
 
-// The row at a place of the table.
-pub fn row_at(at: usize) -> Row
-    requires { ⌜ at < 258 ⌝ }
+// The row at a place of a table; past its end, a malformed one.
+pub fn row_at(rows: &[u64], at: usize) -> Row
+    ensures { λ r. ⌜ r ≡ rowAt (now (rows .entry)) at ⌝ }
 {
-    decode(ROWS[at])
+    if at < rows.len() {
+        decode(rows[at])
+    } else {
+        Row::Malformed
+    }
 }
 
 // What a number stands for. No number of a call is above the largest.
-fn decode(row: u64) -> Row {
+fn decode(row: u64) -> Row
+    ensures { λ r. ⌜ r ≡ rowOf row ⌝ }
+{
     let core = (row / CORE % 256) as u32;
     let card = (row / CARD % 256) as u32;
     if LARGEST < row % CARD {

@@ -1,8 +1,8 @@
--- What the doors do not refuse is fit, and what is fit they do not refuse. For readers: `not-refused` and `fit-taken`, that what `start` gives
--- and `feed` leaves is taken again, as it is.
+-- What the doors do not refuse is fit, and what is fit they do not refuse. For readers: `not-refused`, that what `start` gives and `feed`
+-- leaves is taken again.
 use mathlib.Core.Path.{_≡_, refl, sym, ap, subst, _∙_}
 use mathlib.Core.Logic.{_⊎_, inl, inr, ⊎-elim}
-use mathlib.Core.Bool.{Bool, true, false, not, cond, _&&_, _||_, true≢false}
+use mathlib.Core.Bool.{Bool, true, false, not, cond, _&&_, _||_, or-true, true≢false}
 use mathlib.Core.List.{List}
 use Prim.Native.Nat.{ℕ, suc, _+_, _*_, _/_, _≤_, _<_}
 use native.Mathlib.Omega.{arith}
@@ -12,16 +12,17 @@ use lib.Seq.{drop-cons, length-take-le}
 use borrow.Author.Tests.{eqb-true, leb-true, ltb-true, ltb-false, eq-eqb, ne-eqb, lt-ltb, le-ltb, le-leb}
 use Rattle.machine.specs.Record.{blank}
 use Rattle.core.specs.Tidy.{_⇒_}
-use Rattle.machine.specs.Sound.{sound}
+use Rattle.machine.specs.Sound.{sound, isBlank}
 use Rattle.machine.specs.declared.Machine.{Machine}
 use Rattle.machine.specs.Inside.{Formed, WellFormedWorld}
 use Rattle.core.proofs.TestLaws.{if-true, true-if, both}
 use Rattle.machine.proofs.Sound.Standing.{Standing, standing}
+use Rattle.machine.proofs.BlankLaws.{blank-only, blank-passes}
 use Rattle.table.specs.Pieces.{free}
 use Rattle.runner.specs.declared.Reading.{Reading}
 use Rattle.request.specs.Asks.{mostLines}
 use Rattle.runner.specs.Kept.{held, unfinished, ReadingFits}
-use Rattle.runner.specs.Doors.{readable, asTaken, refusal}
+use Rattle.runner.specs.Doors.{readable, refusal}
 use Rattle.runner.proofs.Setups.{few-words}
 
 -- ---- a newline among bytes, looked for one by one
@@ -68,7 +69,7 @@ taking r committed pending bytes room e =
     go (readable r) refl (eqb committed 64) refl (eqb pending 1024) refl (ltb room (32 * bytes)) refl e
   where
     go : (a : Bool) → readable r ≡ a → (b : Bool) → eqb committed 64 ≡ b → (c : Bool) → eqb pending 1024 ≡ c
-        → (d : Bool) → ltb room (32 * bytes) ≡ d → _≡_ {A = ℕ} (cond (not a) 2 (cond (not (b && c)) 3 (cond d 12 0))) 0
+        → (d : Bool) → ltb room (32 * bytes) ≡ d → _≡_ {A = ℕ} (cond (not a) 2 (cond (not (b && c)) 3 (cond d 100 0))) 0
         → Taking r committed pending bytes room
     go true i true j true k false l e =
         record {
@@ -87,7 +88,7 @@ module _ (r : Reading) where
   few-lines = r .going ⇒ leb (r .number) (mostLines + 1)
 
   abbrev own-machine : Bool
-  own-machine = eqb (r .machine .cores) 0 || (ltb 1 (r .number) && sound (r .machine))
+  own-machine = isBlank (r .machine) || (ltb 1 (r .number) && sound (r .machine))
 
   -- the tests one by one
   record Passed : Type 0 where
@@ -112,7 +113,7 @@ module _ (r : Reading) where
     few on = leb-true (r .number) (mostLines + 1) (if-true (r .going) _ (p .lines-few) on)
 
     -- a sound machine, after line 1
-    good : eqb (r .machine .cores) 0 ≡ false → WellFormedWorld (held (r .machine) cs ps)
+    good : isBlank (r .machine) ≡ false → WellFormedWorld (held (r .machine) cs ps)
     good i =
         let is = both (ltb 1 (r .number)) (sound (r .machine)) (either _ _ i (p .machine-own)) .1 in
         let rules : Standing (r .machine) = standing is in
@@ -129,33 +130,31 @@ module _ (r : Reading) where
           formed = formed;
         }
 
-    passed-fit : ReadingFits (asTaken r) cs ps
-    unfolding asTaken
-    passed-fit = go (eqb (r .machine .cores) 0) refl
+    passed-fit : ReadingFits r cs ps
+    passed-fit =
+        record {
+          holds = record { committed-long = committed; pending-long = pending; blank-or-well-formed = own .0 };
+          line-long = long;
+          few-bytes = leb-true (r .length) 65 (p .bytes-few);
+          no-newline = p .no-newline;
+          some-line = ltb-true 0 (r .number) (p .some-line);
+          few-lines = few;
+          first-blank = own .1;
+        }
       where
-        fit : (m : Machine) → (m ≡ blank) ⊎ WellFormedWorld (held m cs ps) → (r .number ≡ 1 → m ≡ blank)
-            → ReadingFits (record { going = r .going; columns = r .columns; number = r .number; line = r .line; length = r .length; machine = m }) cs ps
-        fit m h first =
-            record {
-              holds = record { committed-long = committed; pending-long = pending; blank-or-well-formed = h };
-              line-long = long;
-              few-bytes = leb-true (r .length) 65 (p .bytes-few);
-              no-newline = p .no-newline;
-              some-line = ltb-true 0 (r .number) (p .some-line);
-              few-lines = few;
-              first-blank = first;
-            }
-
-        go : (z : Bool) → eqb (r .machine .cores) 0 ≡ z
-            → ReadingFits (cond z (record { going = r .going; columns = r .columns; number = r .number; line = r .line; length = r .length; machine = blank }) r) cs ps
-        go true i = fit blank (inl refl) (λ e. refl)
+        go : (z : Bool) → isBlank (r .machine) ≡ z
+            → ((r .machine ≡ blank) ⊎ WellFormedWorld (held (r .machine) cs ps)) × (r .number ≡ 1 → r .machine ≡ blank)
+        go true i = let none = blank-only (r .machine) formed i in (inl none, λ e. none)
         go false i =
             let later = both (ltb 1 (r .number)) (sound (r .machine)) (either _ _ i (p .machine-own)) .0 in
-            fit (r .machine) (inr (good i)) (λ e. absurd (omega (arith, e, ltb-true 1 (r .number) later)))
+            (inr (good i), λ e. absurd (omega (arith, e, ltb-true 1 (r .number) later)))
+
+        own : ((r .machine ≡ blank) ⊎ WellFormedWorld (held (r .machine) cs ps)) × (r .number ≡ 1 → r .machine ≡ blank)
+        own = go (isBlank (r .machine)) refl
 
 -- what is not refused is fit
 pub taken-fit : (r : Reading) (cs ps : List ℕ) (bytes room : ℕ) → Formed (r .machine) × (length (r .line) ≡ 65)
-    → refusal r (length cs) (length ps) bytes room ≡ 0 → ReadingFits (asTaken r) cs ps × (32 * bytes ≤ room)
+    → refusal r (length cs) (length ps) bytes room ≡ 0 → ReadingFits r cs ps × (32 * bytes ≤ room)
 taken-fit r cs ps bytes room formed e =
     let t = taking r (length cs) (length ps) bytes room e in
     (passed-fit r cs ps (formed .0) (formed .1) (passed r (t .sound-reading)) (t .committed-long) (t .pending-long), t .enough)
@@ -163,14 +162,8 @@ taken-fit r cs ps bytes room formed e =
 -- ---- what is fit is not refused
 
 module _ (r : Reading) (cs ps : List ℕ) (f : ReadingFits r cs ps) where
-  no-cores : r .machine ≡ blank → eqb (r .machine .cores) 0 ≡ true
-  no-cores b = eq-eqb (r .machine .cores) 0 (ap (λ (m : Machine). m .cores) b)
-
   cores : WellFormedWorld (held (r .machine) cs ps) → 0 < r .machine .cores
   cores g = standing (g .world-sound .is-sound) .some-cores
-
-  some-cores : WellFormedWorld (held (r .machine) cs ps) → eqb (r .machine .cores) 0 ≡ false
-  some-cores g = ne-eqb (r .machine .cores) 0 (λ e. omega (arith, e, cores g))
 
   -- a machine comes after line 1
   later : WellFormedWorld (held (r .machine) cs ps) → 1 < r .number
@@ -184,8 +177,8 @@ module _ (r : Reading) (cs ps : List ℕ) (f : ReadingFits r cs ps) where
 
   machine-fits : own-machine r ≡ true
   machine-fits =
-      ⊎-elim (λ b. rw (no-cores b) refl)
-      (λ g. rw (some-cores g, lt-ltb 1 (r .number) (later g), g .world-sound .is-sound) refl) (f .holds .blank-or-well-formed)
+      ⊎-elim (λ b. ap (λ (x : Bool). x || (ltb 1 (r .number) && sound (r .machine))) (ap isBlank b ∙ blank-passes))
+      (λ g. rw (lt-ltb 1 (r .number) (later g), g .world-sound .is-sound) (or-true (isBlank (r .machine)))) (f .holds .blank-or-well-formed)
 
   fit-readable : readable r ≡ true
   unfolding readable
@@ -207,16 +200,3 @@ module _ (r : Reading) (cs ps : List ℕ) (f : ReadingFits r cs ps) where
         eq-eqb (length ps) 1024 (f .holds .pending-long),
         le-ltb room (32 * bytes) enough,
       ) refl
-
-  -- and is taken as it is
-  pub fit-taken : asTaken r ≡ r
-  unfolding asTaken
-  fit-taken =
-      ⊎-elim
-      (λ b.
-      rw (no-cores b)
-      (ap
-      (λ (m : Machine).
-      record { going = r .going; columns = r .columns; number = r .number; line = r .line; length = r .length; machine = m })
-      (sym b)))
-      (λ g. rw (some-cores g) refl) (f .holds .blank-or-well-formed)

@@ -7,7 +7,7 @@ ghost use Rattle.runner.specs.Kept.{held, overlaid, committedWords, pend
 ghost use Rattle.runner.specs.Listing.{setUp};
 
 // Setup, with as many words of each table as it asks for.
-pub fn set_up(cores: u32, cards: u32, committed: &mut [u32], pending: &mut [u32]) -> Outcome
+pub(crate) fn set_up(cores: u32, cards: u32, committed: &mut [u32], pending: &mut [u32]) -> Outcome
     requires { ⌜ (length (now committed) ≡ committedWords) × (length (now pending) ≡ pendingWords) ⌝ }
     ensures answer { λ r. ⌜ r .answer ≡ setUp cores cards .answer ⌝ }
     ensures world { λ r. ⌜ held (r .machine) (now (committed .exit)) (now (pending .exit)) ≡ setUp cores cards .world ⌝ }

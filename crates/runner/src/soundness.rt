@@ -2,19 +2,20 @@
 use crate::COMMITTED_WORDS;
 use crate::KEPT_BYTES;
 use crate::LINE_ROOM;
+use crate::NO_ROOM;
 use crate::PENDING_WORDS;
 use crate::Reading;
 use machine::Machine;
 ghost use mathlib.Core.Path.{_≡_};
 ghost use mathlib.Core.Bool.{_&&_, _||_};
 ghost use Prim.Native.Nat.{_+_};
-ghost use lib.Dec.{eqb, leb, ltb};
+ghost use lib.Dec.{leb, ltb};
 ghost use Rattle.core.specs.Tidy.{_⇒_};
-ghost use Rattle.machine.specs.Sound.{sound};
+ghost use Rattle.machine.specs.Sound.{sound, isBlank};
 ghost use Rattle.decimal.specs.Bytes.{byte};
 ghost use Rattle.table.specs.Pieces.{free};
 ghost use Rattle.request.specs.Asks.{mostLines};
-ghost use Rattle.runner.specs.Doors.{readable, asTaken, refusal};
+ghost use Rattle.runner.specs.Doors.{readable, refusal};
 
 // The greatest number that a line may have while lines are read.
 const LAST_LINE: u32 = 1_000_001;
@@ -46,11 +47,11 @@ fn is_line(number: u32, going: bool) -> bool
     true
 }
 
-// Whether there is no machine, or a sound one after line 1.
+// Whether the record is blank, or after line 1 sound.
 fn machine_sound(number: u32, m: Machine) -> bool
-    ensures { λ r. ⌜ r ≡ (eqb (m .cores) 0 || (ltb 1 number && sound m)) ⌝ }
+    ensures { λ r. ⌜ r ≡ (isBlank m || (ltb 1 number && sound m)) ⌝ }
 {
-    if m.cores == 0 {
+    if m.is_blank() {
         return true;
     }
     if number <= 1 {
@@ -92,27 +93,7 @@ pub fn refusal_of(r: Reading, committed: usize, pending: usize, bytes: usize, ro
         return 3;
     }
     if room / LINE_ROOM < bytes {
-        return 12;
+        return NO_ROOM;
     }
     0
-}
-
-// The reading, with a blank record where there is no machine.
-pub fn clear(r: Reading) -> Reading
-    ensures { λ s. ⌜ s ≡ asTaken r ⌝ }
-{
-    let m = r.machine;
-    if m.cores == 0 {
-        let columns = r.columns;
-        let line = r.line;
-        return Reading {
-            going: r.going,
-            columns,
-            number: r.number,
-            line,
-            length: r.length,
-            machine: Machine::blank(),
-        };
-    }
-    r
 }

@@ -5,10 +5,10 @@ use Rattle.examples_run.proofs.main.Statement.{statement}
 use Rattle.examples_run.proofs.main.Tie as tie
 
 abbrev Inv-loop : tie.InvT-loop
-Inv-loop committed₀ pending₀ machine₀ i₀ committed pending machine i = i ≤ 258
+Inv-loop committed₀ pending₀ machine₀ rows i₀ committed pending machine i = i ≤ 278
 
 abbrev μ-loop : tie.MeasureT-loop
-μ-loop committed₀ pending₀ machine₀ i₀ committed pending machine i = 258 - i
+μ-loop committed₀ pending₀ machine₀ rows i₀ committed pending machine i = 278 - i
 
 slice-aggregate-setup : tie.Need-slice-aggregate-setup Inv-loop μ-loop
 slice-aggregate-setup c = search needs
@@ -21,6 +21,9 @@ setup-requires c κs = search needs
 
 loop-holds : tie.Need-loop-holds Inv-loop μ-loop
 loop-holds c = search needs
+
+slice-aggregate-row-at : tie.Need-slice-aggregate-row-at Inv-loop μ-loop
+slice-aggregate-row-at c = search needs
 
 row-at-requires : tie.Need-row-at-requires Inv-loop μ-loop
 row-at-requires c κs = search needs
@@ -50,6 +53,7 @@ main-spec =
     slice-aggregate-setup-2
     setup-requires
     loop-holds
+    slice-aggregate-row-at
     row-at-requires
     play-requires
     add-i
