@@ -53,7 +53,7 @@ table() {
   echo
   echo "| call | inside | reference | reference less its test | inside / reference less its test | door | door's extra |"
   echo "|---|---:|---:|---:|---:|---:|---:|"
-  for call in setup release begin read write commit commit-looking give-up finish; do
+  for call in setup release begin read write commit commit-read-only give-up finish; do
     door=$(($(turn door "$cores" $call) - door_none))
     reference=$(($(turn reference "$cores" $call) - reference_none))
     same_answer $call door reference

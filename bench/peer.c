@@ -240,7 +240,7 @@ INLINE uint8_t *commit(uint8_t *out, uint32_t c) {
   static const char committed[16] = "committed ";
   if (c >= machine.cores) return no_such_core(out);
   if (machine.core[c].status != ACTIVE) return no_attempt(out, &machine.core[c]);
-  // One that only looks, its write set empty, waits for nobody.
+  // A read-only one, its write set empty, waits for nobody.
   const uint64_t write_set = machine.write_set[c];
   const unsigned place = write_set ? first_in_the_way(c) : place_of(c), first = machine.queue[place];
   if (first != c) return waits(out, first);

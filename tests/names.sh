@@ -1,7 +1,7 @@
 #!/usr/bin/env bash
 # Names. No name is defined twice in crates/*/specs: a definition, a record or a case of a data type. Each file of laws (crates/*/proofs,
-# but for the functions' own Proof.antt and the lists Lib.antt) is named in docs/ARCHITECTURE.md. Ends in 'N passed, M failed': N names and
-# files, M faults.
+# but for the functions' own Proof.antt and the lists Lib.antt) is named in docs/ARCHITECTURE.md. A public function asks nothing: one with a
+# `requires` stands in a module `inside`, or is the crate's own. Ends in 'N passed, M failed': N names, files and public functions, M faults.
 # Usage: tests/names.sh [DIR], where DIR holds crates/ and docs/
 set -u
 cd "${1:-$(dirname "$0")/..}" || exit 1
@@ -27,5 +27,16 @@ while read -r file; do
   failed=$((failed + 1))
   echo "$file is not named in docs/ARCHITECTURE.md"
 done < <(find crates/*/proofs -name '*.antt' ! -name Proof.antt ! -name Lib.antt | sort)
+# a function's signature and contract end where its body begins, a brace alone on its line or at the end of its first
+find crates/*/src -name '*.rt' ! -path '*/inside/*' ! -name inside.rt -exec awk '
+  /^ *pub (extern "C" )?fn / { name = $0; sub(/^.*fn /, "", name); sub(/\(.*/, "", name); open = 1; asks = 0 }
+  open && /^ *requires / { asks = 1 }
+  open && /^ *\{|\{$/ { print asks, name, FILENAME; open = 0 }
+' {} + | sort >"$work/functions"
+while read -r asks name file; do
+  if [ "$asks" -eq 0 ]; then passed=$((passed + 1)); continue; fi
+  failed=$((failed + 1))
+  echo "$file: $name is public and has a requires"
+done <"$work/functions"
 echo "$passed passed, $failed failed"
 [ "$failed" -eq 0 ] && [ "$passed" -gt 0 ]

@@ -44,15 +44,18 @@ wrong "waits names the smallest ticket in progress" $commit \
 wrong "waits names a later one in conflict" $commit \
   's/core: first as u32/core: (c + 1..16).find(|\&o| self.core[o].ticket > self.core[c].ticket \&\& self.core[c].conflicts_with(\&self.core[o])).unwrap_or(first) as u32/'
 wrong "the listing names no core" script/listing.rs 's/("waits", Some(core))/("waits", None)/'
-wrong "a looker waits" $commit 's/!self.core\[c\].read_only()/true/'
+wrong "a read-only one waits" $commit 's/!self.core\[c\].read_only()/true/'
 wrong "one with an empty read set waits for nobody, no other" record.rs '/fn read_only/,/}/s/self.write_set == 0/self.read_set == 0/'
 wrong "one that has touched nothing waits for nobody, no other" record.rs '/fn read_only/,/}/s/self.write_set == 0/self.data_set() == 0/'
-wrong "a marked looker commits" $commit 's/if self.core\[c\].zombie/& \&\& !self.core[c].read_only()/'
-wrong "a later writer passes an earlier looker" $commit 's/other.ticket < own.ticket/& \&\& !other.read_only()/'
-wrong "a looker's commit strikes who read the same" $commit \
+wrong "a marked read-only one commits" $commit 's/if self.core\[c\].zombie/& \&\& !self.core[c].read_only()/'
+wrong "a later writer passes an earlier read-only one" $commit 's/other.ticket < own.ticket/& \&\& !other.read_only()/'
+wrong "a read-only commit strikes who read the same" $commit \
   's/self.strike(ending.write_set)/self.strike(if ending.read_only() { ending.read_set } else { ending.write_set })/'
-wrong "one that was set back is no looker" record.rs '/fn read_only/,/}/s/self.write_set == 0/& \&\& self.aborts == 0/'
-wrong "one that wrote before it was set back is no looker" record.rs \
+wrong "two that have read one card conflict" record.rs 's/other.write_set & self.data_set()/other.data_set() \& self.data_set()/'
+wrong "a writer's commit strikes who read the same" $commit \
+  's/self.strike(ending.write_set)/self.strike(if ending.read_only() { 0 } else { ending.data_set() })/'
+wrong "one that was set back is not read-only" record.rs '/fn read_only/,/}/s/self.write_set == 0/& \&\& self.aborts == 0/'
+wrong "one that wrote before it was set back is not read-only" record.rs \
   's/    pub write_set: Set,/&\n    pub wrote: bool,/; /fn read_only/,/}/s/self.write_set == 0/& \&\& !self.wrote/' \
   $transaction 's/self.core\[c\].write_set |= only(d);/& self.core[c].wrote = true;/'
 wrong "a write of the value that is there is none" $transaction 's/self.core\[c\].write_set |= only(d);/if committed[d] != value { & }/'

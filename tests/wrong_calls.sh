@@ -41,17 +41,20 @@ wrong "waits names the greatest ticket in the way" $commit 's/min_by_key/max_by_
 wrong "waits names the smallest ticket in progress" $commit \
   's/core: first as u32/core: (0..16).filter(|\&o| self.core[o].in_progress).min_by_key(|\&o| self.core[o].ticket).unwrap_or(first) as u32/'
 wrong "waits names the smallest of tickets with a sign" $commit 's/|&other| self.core\[other\].ticket/& as i32/'
-wrong "a looker waits" $commit 's/!self.core\[c\].read_only()/true/'
+wrong "a read-only one waits" $commit 's/!self.core\[c\].read_only()/true/'
 wrong "one with an empty read set waits for nobody, no other" record.rs '/fn read_only/,/}/s/self.write_set == 0/self.read_set == 0/'
 wrong "one that has touched nothing waits for nobody, no other" record.rs '/fn read_only/,/}/s/self.write_set == 0/self.data_set() == 0/'
-wrong "a marked looker commits" $commit 's/if self.core\[c\].zombie/& \&\& !self.core[c].read_only()/'
-wrong "a later writer passes an earlier looker" $commit 's/other.ticket < own.ticket/& \&\& !other.read_only()/'
-wrong "a looker that was set back waits" record.rs '/fn read_only/,/}/s/self.write_set == 0/& \&\& self.aborts == 0/'
-wrong "a looker's commit raises the versions of what it read" $commit \
+wrong "a marked read-only one commits" $commit 's/if self.core\[c\].zombie/& \&\& !self.core[c].read_only()/'
+wrong "a later writer passes an earlier read-only one" $commit 's/other.ticket < own.ticket/& \&\& !other.read_only()/'
+wrong "a read-only one that was set back waits" record.rs '/fn read_only/,/}/s/self.write_set == 0/& \&\& self.aborts == 0/'
+wrong "a read-only commit raises the versions of what it read" $commit \
   's/self.commits += 1;/& if ending.read_only() { (0..64).filter(|\&d| ending.read_set \& only(d) != 0).for_each(|d| self.versions[d] += 1); }/'
-wrong "a looker's commit strikes who read the same" $commit \
+wrong "a read-only commit strikes who read the same" $commit \
   's/self.strike(ending.write_set)/self.strike(if ending.read_only() { ending.read_set } else { ending.write_set })/'
-wrong "a looker's commit is not counted" $commit 's/self.commits += 1;/self.commits += u32::from(!ending.read_only()); self.give_ups += u32::from(ending.read_only());/'
+wrong "a read-only commit is not counted" $commit 's/self.commits += 1;/self.commits += u32::from(!ending.read_only()); self.give_ups += u32::from(ending.read_only());/'
+wrong "two that have read one card conflict" record.rs 's/other.write_set & self.data_set()/other.data_set() \& self.data_set()/'
+wrong "a writer's commit strikes who read the same" $commit \
+  's/self.strike(ending.write_set)/self.strike(if ending.read_only() { 0 } else { ending.data_set() })/'
 wrong "longer committed values fit" $admit 's/committed.len() as u64 == /committed.len() as u64 >= /'
 wrong "longer pending values fit" $admit 's/pending.len() as u64 == /pending.len() as u64 >= /'
 wrong "the last ticket is not given" $admit 's/self.tickets == MAX_TICKETS/self.tickets >= MAX_TICKETS - 1/'

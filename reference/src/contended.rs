@@ -1,5 +1,6 @@
 //! Contended runs by seed: few objects, many cores, some refused calls. Some
-//! cores are displays, which read many objects and write none.
+//! cores are displays, which read many objects and write none; in some runs many
+//! read one object and write others.
 
 use crate::answer::Answer;
 use crate::call::Call;
@@ -38,15 +39,17 @@ enum Habit {
     #[default]
     Mixed,
     /// Reads only, one object after another from this one on.
-    Looks { from: u32 },
+    ReadOnly { from: u32 },
     /// Writes the values that are there.
     Keeps,
+    /// Reads an object that others read too, and then writes its own.
+    Shares,
 }
 
 /// What the generator remembers of a core, from the answers it heard.
 #[derive(Clone, Copy, Default)]
 struct Seat {
-    /// Every attempt only looks.
+    /// Every attempt is read-only.
     display: bool,
     jobs: u32,
     open: bool,
@@ -72,10 +75,13 @@ pub struct Contention {
     writes: u32,
     /// The share of give-ups among commits, in a hundred.
     give_ups: u32,
-    /// The share of attempts that look, in a hundred, and half as many that keep
+    /// The share of read-only attempts, in a hundred, and half as many that keep
     /// what is there, on cores that are no displays.
-    looks: u32,
-    /// Reads of an attempt that looks, at most.
+    read_only: u32,
+    /// The share of the other attempts that read one object and write their own, in
+    /// a hundred.
+    shares: u32,
+    /// Reads of a read-only attempt, at most.
     frame: u32,
     /// The objects that most reads and writes go to.
     hot: Vec<u32>,
@@ -89,7 +95,8 @@ pub struct Contention {
 
 impl Contention {
     /// Chooses the machine and the shape of the run by the seed. Three runs in
-    /// ten have crowds, on a machine of some cores more.
+    /// ten have crowds, on a machine of some cores more; in some of the others many
+    /// read one object.
     pub fn new(seed: u64) -> Contention {
         let mut random = Random::new(seed);
         let most_cores = *random.pick(&[2, 4, 4, 8, 16]);
@@ -101,7 +108,11 @@ impl Contention {
             let writes = shaped.writes.max(60);
             return Contention { even: false, crowds: 5, writes, ..shaped };
         }
-        Contention::shaped(random, cores, objects)
+        let mut shaped = Contention::shaped(random, cores, objects);
+        if objects > 1 {
+            shaped.shares = *shaped.random.pick(&[0, 0, 60]);
+        }
+        shaped
     }
 
     /// Chooses the shape of the run by the seed, for this machine.
@@ -147,7 +158,8 @@ impl Contention {
             hot: [0, 1, 31, 32, 62, 63].into_iter().filter(|&object| object < objects).collect(),
             crowds: 0,
             ahead: Vec::new(),
-            looks: if displays > 0 { 20 } else { 0 },
+            read_only: if displays > 0 { 20 } else { 0 },
+            shares: 0,
             frame: 12.min(2 * objects),
             seats,
             random,
@@ -284,11 +296,18 @@ impl Contention {
         let any_object = self.random.below(self.objects);
         let hot_object = *self.random.pick(&self.hot);
         let object = match seat.habit {
-            Habit::Looks { from } => (from + seat.done) % self.objects,
+            Habit::ReadOnly { from } => (from + seat.done) % self.objects,
+            Habit::Shares if seat.done == 0 => 0,
+            Habit::Shares => return self.write_own(core),
             _ if self.random.percent(80) => hot_object,
             _ => any_object,
         };
         self.touch(core, object, seat.habit, committed)
+    }
+
+    /// A write of an object that few others write, and that is not the first one.
+    fn write_own(&mut self, core: u32) -> Call {
+        Call::Write { core, object: 1 + core % (self.objects - 1), value: self.word() }
     }
 
     fn touch(&mut self, core: u32, object: u32, habit: Habit, committed: &[u32]) -> Call {
@@ -304,11 +323,14 @@ impl Contention {
     /// What the next attempt on a core does.
     fn next_habit(&mut self, core: u32) -> Habit {
         let display = self.seats[core as usize].display;
-        if display || self.random.percent(self.looks) {
-            return Habit::Looks { from: self.random.below(self.objects) };
+        if display || self.random.percent(self.read_only) {
+            return Habit::ReadOnly { from: self.random.below(self.objects) };
         }
-        match self.random.percent(self.looks / 2) {
-            true => Habit::Keeps,
+        if self.random.percent(self.read_only / 2) {
+            return Habit::Keeps;
+        }
+        match self.shares > 0 && self.random.percent(self.shares) {
+            true => Habit::Shares,
             false => Habit::Mixed,
         }
     }
@@ -360,7 +382,8 @@ impl Contention {
     fn plan(&mut self, core: u32) {
         let habit = self.next_habit(core);
         let any_length = match habit {
-            Habit::Looks { .. } => self.random.below(self.frame + 1),
+            Habit::ReadOnly { .. } => self.random.below(self.frame + 1),
+            Habit::Shares => 1 + self.random.below(2),
             _ => self.random.below(self.length + 1),
         };
         let planned = if self.even { self.length } else { any_length };

@@ -12,8 +12,7 @@
 //!   levels with the sheet's: `lists`
 //! - what the programs of such comparisons are told: `options`
 //! - inputs by seed: `random`, `contended`, `scripts`, `sheets`, `choices`,
-//!   `shrink`; what they show of waits: `waiting`, and of those that only look:
-//!   `looking`
+//!   `shrink`; what they show of waits: `waiting`, and of readers: `readers`
 //!
 //! The code says object for card, abort for setback and zombie for marked.
 
@@ -31,10 +30,10 @@ pub mod fields;
 pub mod frame;
 pub mod listed_runs;
 pub mod lists;
-pub mod looking;
 pub mod machine;
 pub mod options;
 pub mod random;
+pub mod readers;
 pub mod record;
 pub mod refusal;
 pub mod replay;

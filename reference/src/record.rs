@@ -48,8 +48,9 @@ impl Core {
         self.read_set | self.write_set
     }
 
-    /// Whether this attempt only looks: its write set is empty. What an earlier
-    /// attempt wrote does not count; one that has touched nothing only looks too.
+    /// Whether this attempt is read-only (document 02, paper 4: it only looks): its
+    /// write set is empty. What an earlier attempt wrote does not count; one that has
+    /// touched nothing is read-only too.
     pub fn read_only(&self) -> bool {
         self.write_set == 0
     }

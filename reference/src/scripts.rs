@@ -132,12 +132,13 @@ fn contended(random: &mut Random, most: u32) -> Vec<Call> {
 /// Few calls, so that a script that shows a fault has few lines to choose from.
 fn few_calls(random: &mut Random) -> Vec<Call> {
     let length = 1 + random.place(FEW_CALLS);
-    match random.below(12) {
+    match random.below(13) {
         0 => full_list(random, length),
         1 | 2 => struck_in_turn(random),
         3 => [small(random, length / 2), small(random, length / 2)].concat(),
         4..=6 => crowd(random),
         7 | 8 => frame(random),
+        9 => shared_read(random),
         _ => small(random, length),
     }
 }
@@ -173,6 +174,21 @@ fn frame(random: &mut Random) -> Vec<Call> {
     if random.percent(50) {
         calls.extend([Call::Read { core: 0, object: 0 }, Call::Commit { core: 0 }]);
     }
+    calls
+}
+
+/// A setup and two or three that read card 0; most then write a card of their
+/// own. All begin, and ask to commit, in any order.
+fn shared_read(random: &mut Random) -> Vec<Call> {
+    let cores = 2 + random.below(2);
+    let mut calls = vec![Call::Setup { cores, objects: cores + 1 }];
+    calls.extend((0..cores).map(|core| Call::Release { core, job: 7, deadline: 9 }));
+    calls.extend(random.shuffled(cores).into_iter().map(|core| Call::Begin { core }));
+    calls.extend((0..cores).map(|core| Call::Read { core, object: 0 }));
+    for core in (0..cores).filter(|_| random.percent(80)) {
+        calls.push(Call::Write { core, object: core + 1, value: 5 });
+    }
+    calls.extend(random.shuffled(cores).into_iter().map(|core| Call::Commit { core }));
     calls
 }
 

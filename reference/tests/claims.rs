@@ -221,8 +221,32 @@ fn waits_for_earlier() {
     assert_eq!(broken(&report(&for_later)), expected);
 }
 
+/// Cores 0 and 1 have read one object and written two others.
+const SHARED: [(&str, &str); 8] = [
+    ("begin 0 - -", "begun 0"),
+    ("begin 1 - -", "begun 1"),
+    ("read 0 0 -", "value 0"),
+    ("read 1 0 -", "value 0"),
+    ("write 0 1 5", "written -"),
+    ("write 1 2 6", "written -"),
+    ("commit 1 - -", "committed 0"),
+    ("commit 0 - -", "committed 0"),
+];
+
+#[test]
+fn two_that_have_read_one_object_neither_wait_nor_are_struck() {
+    assert_eq!(broken(&report(&SHARED)), []);
+    let waits = report(&with(&SHARED[..7], 6, "waits 0"));
+    let expected = [(6, Claim::WaitsForEarlier, Some(1)), (6, Claim::NamedInConflict, Some(1))];
+    assert_eq!(broken(&waits), expected);
+    let told = report(&with(&SHARED, 7, "setback -"));
+    assert_eq!(broken(&told), [(7, Claim::ToldOnce, Some(0))]);
+    let counted = report(&with(&SHARED, 7, "committed 1"));
+    assert_eq!(broken(&counted), [(7, Claim::AbortsReported, Some(0))]);
+}
+
 /// Core 1 reads what core 0 has written, and asks to commit.
-const LOOKS: [(&str, &str); 6] = [
+const READ_ONLY: [(&str, &str); 6] = [
     ("begin 0 - -", "begun 0"),
     ("begin 1 - -", "begun 1"),
     ("write 0 0 5", "written -"),
@@ -233,11 +257,11 @@ const LOOKS: [(&str, &str); 6] = [
 
 #[test]
 fn one_that_has_written_nothing_never_waits() {
-    assert_eq!(broken(&report(&LOOKS)), []);
-    let waits = report(&with(&LOOKS[..5], 4, "waits 0"));
+    assert_eq!(broken(&report(&READ_ONLY)), []);
+    let waits = report(&with(&READ_ONLY[..5], 4, "waits 0"));
     assert_eq!(broken(&waits), [(4, Claim::ReadOnlyNeverWaits, Some(1))]);
     // With nothing touched there is nobody in the way either.
-    let idle = [LOOKS[0], LOOKS[1], LOOKS[2], ("commit 1 - -", "waits 0")];
+    let idle = [READ_ONLY[0], READ_ONLY[1], READ_ONLY[2], ("commit 1 - -", "waits 0")];
     let expected = [
         (3, Claim::WaitsForEarlier, Some(1)),
         (3, Claim::ReadOnlyNeverWaits, Some(1)),
@@ -248,23 +272,23 @@ fn one_that_has_written_nothing_never_waits() {
 
 #[test]
 fn one_that_has_written_nothing_is_never_refused() {
-    let refused = report(&with(&LOOKS, 4, "refused 9"));
+    let refused = report(&with(&READ_ONLY, 4, "refused 9"));
     let expected = [(4, Claim::ReadOnlyNeverRefused, Some(1))];
     assert_eq!(broken(&refused), expected);
     // Nor while it is marked and not told; a core with no transaction may be.
     let marked = [&TOGETHER[..6], &[("commit 1 - -", "refused 2")]].concat();
     assert_eq!(broken(&report(&marked)), [(6, Claim::ReadOnlyNeverRefused, Some(1))]);
-    let nobody = [&LOOKS[..5], &[("commit 1 - -", "refused 9"), ("commit 3 - -", "refused 4")]];
+    let nobody = [&READ_ONLY[..5], &[("commit 1 - -", "refused 9"), ("commit 3 - -", "refused 4")]];
     assert_eq!(broken(&report(&nobody.concat())), []);
     // Of one that has written this claim says nothing.
-    let wrote = [LOOKS[0], LOOKS[2], ("commit 0 - -", "refused 3")];
+    let wrote = [READ_ONLY[0], READ_ONLY[2], ("commit 0 - -", "refused 3")];
     assert_eq!(broken(&report(&wrote)), []);
 }
 
 #[test]
 fn only_one_that_has_written_nothing_commits_past_an_earlier_one() {
     for touch in [("write 1 0 0", "written -"), ("write 1 1 7", "written -")] {
-        let steps = [&LOOKS[..4], &[touch, LOOKS[4]]].concat();
+        let steps = [&READ_ONLY[..4], &[touch, READ_ONLY[4]]].concat();
         let in_turn = (5, Claim::CommitsInTurn, Some(1));
         assert!(broken(&report(&steps)).contains(&in_turn), "{touch:?}");
         let waits = with(&steps, 5, "waits 0");
@@ -297,7 +321,7 @@ fn what_an_earlier_attempt_wrote_does_not_count() {
 }
 
 #[test]
-fn a_marked_looker_is_told_before_it_commits() {
+fn a_marked_read_only_one_is_told_before_it_commits() {
     let untold = [&COMES_BACK[..7], &[("commit 2 - -", "committed 1")]].concat();
     let expected = [(7, Claim::ToldOnce, Some(2)), (7, Claim::AbortsReported, Some(2))];
     assert_eq!(broken(&report(&untold)), expected);
@@ -306,15 +330,15 @@ fn a_marked_looker_is_told_before_it_commits() {
 }
 
 #[test]
-fn a_lookers_commit_strikes_nobody() {
-    let told = [&LOOKS[..5], &[("commit 0 - -", "setback -")]].concat();
+fn a_read_only_commit_strikes_nobody() {
+    let told = [&READ_ONLY[..5], &[("commit 0 - -", "setback -")]].concat();
     assert_eq!(broken(&report(&told)), [(5, Claim::ToldOnce, Some(0))]);
-    let counted = with(&LOOKS, 5, "committed 1");
+    let counted = with(&READ_ONLY, 5, "committed 1");
     assert_eq!(broken(&report(&counted)), [(5, Claim::AbortsReported, Some(0))]);
 }
 
 #[test]
-fn a_lookers_commit_raises_no_version() {
+fn a_read_only_commit_raises_no_version() {
     let run = |version| {
         whole(&[
             ("begin 0 - -", Answer::Begun(0)),
@@ -330,7 +354,7 @@ fn a_lookers_commit_raises_no_version() {
 }
 
 #[test]
-fn a_later_writer_waits_for_an_earlier_looker() {
+fn a_later_writer_waits_for_an_earlier_read_only_one() {
     let steps = [
         ("begin 0 - -", "begun 0"),
         ("begin 1 - -", "begun 1"),
@@ -346,21 +370,21 @@ fn a_later_writer_waits_for_an_earlier_looker() {
 }
 
 #[test]
-fn a_looker_is_replayed_where_it_committed() {
+fn a_read_only_one_is_replayed_where_it_committed() {
     // Core 1 commits before core 0 and reads the old value, and the new one after.
-    let again = [("begin 1 - -", "begun 2"), ("read 1 0 -", "value 5"), LOOKS[4]];
-    let steps = [&LOOKS[..], &again].concat();
+    let again = [("begin 1 - -", "begun 2"), ("read 1 0 -", "value 5"), READ_ONLY[4]];
+    let steps = [&READ_ONLY[..], &again].concat();
     assert_eq!(broken(&report(&steps)), []);
     assert!(report(&with(&steps, 3, "value 5")).breaks(Claim::SerialReads));
     assert!(report(&with(&steps, 7, "value 0")).breaks(Claim::SerialReads));
 }
 
 #[test]
-fn a_looker_has_rounds_like_any_other() {
+fn a_read_only_one_has_rounds_like_any_other() {
     // k = 1 and L = 1: six rounds, of which its read is in the first.
     let rounds = |count| [("commit 0 - -", "waits 1"), ("commit 1 - -", "waits 0")].repeat(count);
     let late = (13, Claim::RoundsBound, Some(1));
-    let asks = |count| broken(&report(&[&LOOKS[..4], &rounds(count)].concat()));
+    let asks = |count| broken(&report(&[&READ_ONLY[..4], &rounds(count)].concat()));
     assert!(asks(5).contains(&late));
     assert!(!asks(4).iter().any(|&(_, claim, whose)| (claim, whose) == (late.1, late.2)));
 }

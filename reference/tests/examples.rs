@@ -67,7 +67,7 @@ fn f_begin_twice() {
 }
 
 const TWO_BEGUN: [&str; 5] =
-    ["setup 2 2 -", "release 0 1 1", "release 1 2 2", "begin 0 - -", "begin 1 - -"];
+    ["setup 2 3 -", "release 0 1 1", "release 1 2 2", "begin 0 - -", "begin 1 - -"];
 
 fn after_two_begun(lines: &[&str]) -> Vec<String> {
     answers(&[&TWO_BEGUN, lines].concat()).split_off(TWO_BEGUN.len())
@@ -85,6 +85,19 @@ fn h_two_readers_do_not_wait() {
     let lines = ["read 0 0 -", "read 1 0 -", "commit 1 - -", "commit 0 - -"];
     let expected = ["value 0", "value 0", "committed 0", "committed 0"];
     assert_eq!(after_two_begun(&lines), expected);
+}
+
+/// Since paper 4 of document 02 the two of H commit at once, being read-only,
+/// even where readers conflict. These two have written.
+#[test]
+fn h_two_readers_that_write_others_neither_wait_nor_strike() {
+    let access = ["read 0 0 -", "read 1 0 -", "write 0 1 5", "write 1 2 6"];
+    for commits in [["commit 1 - -", "commit 0 - -"], ["commit 0 - -", "commit 1 - -"]] {
+        let lines = [&access[..], &commits].concat();
+        let expected =
+            ["value 0", "value 0", "written -", "written -", "committed 0", "committed 0"];
+        assert_eq!(after_two_begun(&lines), expected);
+    }
 }
 
 #[test]

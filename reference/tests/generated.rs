@@ -8,9 +8,9 @@ use cards_reference::call::Call;
 use cards_reference::checker::{check, Nearest, Run};
 use cards_reference::contended::Contention;
 use cards_reference::listed_runs::listed_runs;
-use cards_reference::looking::{Looking, CASES};
 use cards_reference::machine::Machine;
 use cards_reference::random::Random;
+use cards_reference::readers::{ReaderCases, CASES};
 use cards_reference::replay::first_difference;
 use cards_reference::script::{listed, listing_of, parse_names};
 use cards_reference::scripts::{names_line, orders, quick_script, script, LONGEST_ONE_IN};
@@ -181,18 +181,17 @@ fn scripts_wait_in_crowds() {
     assert!(any.between * 40 > any.all && any.with_crowd > 15, "{any:?}");
 }
 
-/// How often each of the cases of those that only look is met, and in how many
-/// runs or scripts.
+/// How often each of the cases of readers is met, and in how many runs or scripts.
 #[derive(Default)]
-struct Looks {
+struct ReadersMet {
     all: [usize; CASES.len()],
     with: [usize; CASES.len()],
 }
 
-impl Looks {
+impl ReadersMet {
     fn add(&mut self, runs: &[Run]) {
         let mut met = [0; CASES.len()];
-        runs.iter().flat_map(looks).for_each(|case| met[case] += 1);
+        runs.iter().flat_map(reader_cases).for_each(|case| met[case] += 1);
         for (case, met) in met.into_iter().enumerate() {
             self.all[case] += met;
             self.with[case] += usize::from(met > 0);
@@ -216,32 +215,33 @@ impl Looks {
 }
 
 /// The cases that a run shows, one after another.
-fn looks(run: &Run) -> Vec<usize> {
+fn reader_cases(run: &Run) -> Vec<usize> {
     let mut machine = Machine::blank();
     machine.call(Call::Setup { cores: run.cores, objects: run.objects });
-    let (mut looking, mut seen) = (Looking::default(), Vec::new());
+    let (mut cases, mut seen) = (ReaderCases::default(), Vec::new());
     for &(call, _) in &run.steps {
         let before = machine.record;
         let answer = machine.call(call);
-        let shown = looking.see(&before, call, answer, machine.committed(), machine.pending());
+        let shown = cases.see(&before, call, answer, machine.committed(), machine.pending());
         seen.extend((0..CASES.len()).filter(|&case| shown[case]));
     }
     seen
 }
 
 #[test]
-fn contended_runs_look() {
-    let mut looks = Looks::default();
+fn contended_runs_have_readers() {
+    let mut met = ReadersMet::default();
     for seed in 0..600 {
-        looks.add(&[Contention::new(seed).run(&mut Machine::blank(), 1_000)]);
+        met.add(&[Contention::new(seed).run(&mut Machine::blank(), 1_000)]);
     }
-    looks.print("600 contended runs");
-    looks.each_in([250, 25, 250, 140, 250, 250, 250]);
+    met.print("600 contended runs");
+    met.each_in([250, 25, 250, 140, 250, 250, 250, 70, 150]);
 }
 
 #[test]
-fn scripts_look() {
-    let (mut quick, mut few, mut any) = (Looks::default(), Looks::default(), Looks::default());
+fn scripts_have_readers() {
+    let (mut quick, mut few, mut any) =
+        (ReadersMet::default(), ReadersMet::default(), ReadersMet::default());
     for seed in 1..=10_000 {
         let script = quick_script(seed);
         let runs = runs_of(&script);
@@ -254,9 +254,9 @@ fn scripts_look() {
     quick.print("10,000 quick scripts");
     few.print("those of fewer than 20 lines");
     any.print("300 scripts of any length");
-    quick.each_in([800, 40, 550, 160, 450, 700, 400]);
-    few.each_in([90, 1, 70, 35, 75, 15, 50]);
-    any.each_in([60, 1, 45, 15, 40, 55, 40]);
+    quick.each_in([800, 40, 550, 160, 450, 700, 400, 120, 280]);
+    few.each_in([90, 1, 70, 35, 75, 15, 50, 30, 50]);
+    any.each_in([60, 1, 45, 15, 40, 55, 40, 8, 25]);
 }
 
 #[test]

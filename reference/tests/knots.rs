@@ -113,11 +113,17 @@ fn whoever_is_named_by_mistake_is_seen() {
 }
 
 #[test]
-fn a_wrong_rule_for_those_that_only_look_is_seen() {
+fn a_wrong_rule_for_read_only_ones_is_seen() {
     caught(Knot::ReaderWaits, &[Claim::ReadOnlyNeverWaits]);
     let passed = [Claim::CommitsInTurn, Claim::StruckByEarlier, Claim::StrikesAtMostK];
     caught(Knot::ReaderPassed, &passed);
     caught(Knot::ReaderRaises, &[Claim::Versions, Claim::StoodTogether]);
+}
+
+#[test]
+fn a_wrong_rule_for_two_that_read_one_object_is_seen() {
+    caught(Knot::ReadersConflict, &[Claim::WaitsForEarlier, Claim::NamedInConflict]);
+    caught(Knot::ReadersStruck, &[Claim::ToldOnce, Claim::AbortsReported]);
 }
 
 #[test]
@@ -151,6 +157,8 @@ fn every_knot_shows_in_the_answers() {
         Knot::ReaderWaits,
         Knot::ReaderPassed,
         Knot::ReaderRaises,
+        Knot::ReadersConflict,
+        Knot::ReadersStruck,
     ] {
         let differs = runs(knot).any(|run| first_difference(&run).is_some());
         assert!(differs, "{knot:?}");

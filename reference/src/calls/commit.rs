@@ -1,5 +1,5 @@
-//! commit: the commit rule, as paper 4 of document 02 amends it for those that
-//! only look.
+//! commit: the commit rule, as paper 4 of document 02 amends it for read-only
+//! transactions.
 
 use super::admit::Admitted;
 use crate::answer::Answer;

@@ -1,13 +1,13 @@
 //! Judges a whole run by demands 2 and 3 of document 01, and by what papers 1 and
-//! 4 of document 02 say of waits and of those that only look, from its calls and
-//! answers alone: no record and no rule of the machine is looked at. Each claim
+//! 4 of document 02 say of waits and of read-only transactions, from its calls and
+//! answers alone: no record and no rule of the machine is consulted. Each claim
 //! has a file of its own over one history.
 
 mod commits;
 mod fits;
 mod history;
-mod looking;
 mod named;
+mod read_only;
 mod report;
 mod rounds;
 mod serial;
@@ -57,7 +57,7 @@ pub fn check(run: &Run) -> Report {
     together::check(&history, &tables, &mut report);
     strikes::check(&history, &mut report);
     commits::check(&history, &mut report);
-    looking::check(&history, &mut report);
+    read_only::check(&history, &mut report);
     named::check(&history, &mut report);
     told::check(&history, &mut report);
     rounds::check(&history, &mut report);

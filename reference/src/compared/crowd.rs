@@ -1,6 +1,6 @@
 //! Records with a transaction on nearly every core, their tickets in any order
 //! and anywhere up to the limit: for most commits there are several in the way,
-//! earlier ones that are not in conflict and later ones that are. Some only look.
+//! earlier ones that are not in conflict and later ones that are. Some are read-only.
 
 use crate::random::Random;
 use crate::record::{Core, Job, Record, MAX_TICKETS};

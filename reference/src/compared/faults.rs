@@ -74,13 +74,26 @@ impl Left<'_> {
         matches!(self.call, Call::Begin { .. }) && self.given.tickets == u32::MAX
     }
 
-    /// The core of a commit of one that only looks.
-    fn looks(&self) -> Option<usize> {
+    /// The core of a commit that went through.
+    fn committed_core(&self) -> Option<usize> {
         match (self.kind, self.call) {
             (COMMITTED, Call::Commit { core }) => Some(core as usize),
             _ => None,
         }
-        .filter(|&core| self.given.core[core].read_only())
+    }
+
+    /// The core of a read-only commit, and of any other.
+    fn read_only_commit(&self) -> Option<usize> {
+        self.committed_core().filter(|&core| self.given.core[core].read_only())
+    }
+
+    fn writing_commit(&self) -> Option<usize> {
+        self.committed_core().filter(|&core| !self.given.core[core].read_only())
+    }
+
+    /// Counts a strike on this core.
+    fn strike(&mut self, core: usize) {
+        *self.word(core_place(core) + JOB_WORDS + ABORTS) += 1;
     }
 
     /// A word of the record and the answer's values.
@@ -135,6 +148,7 @@ pub fn faults() -> Vec<Fault> {
         answers(),
         named(),
         read_only(),
+        shared_reads(),
         refusals(),
         orders(),
         fields(),
@@ -241,22 +255,24 @@ fn in_conflict(record: &Record, own: usize) -> impl Iterator<Item = usize> + '_ 
     others(record, own).filter(conflict)
 }
 
-/// A wrong rule for those that only look.
+/// A wrong rule for read-only transactions.
 fn read_only() -> Vec<Fault> {
     let mut faults = Vec::new();
-    faults.push(fault("one that only looks waits", |left| {
-        if let Some(first) = left.looks().and_then(|own| first_in_the_way(left.given, own)) {
+    faults.push(fault("a read-only one waits", |left| {
+        if let Some(first) =
+            left.read_only_commit().and_then(|own| first_in_the_way(left.given, own))
+        {
             left.says(WAITS, first as u32);
         }
     }));
     faults.push(fault("one that has touched nothing waits", |left| {
-        let idle = left.looks().filter(|&own| left.given.core[own].read_set == 0);
+        let idle = left.read_only_commit().filter(|&own| left.given.core[own].read_set == 0);
         if let Some(other) = idle.and_then(|own| others(left.given, own).next()) {
             left.says(WAITS, other as u32);
         }
     }));
-    faults.push(fault("one that only looks after a setback waits", |left| {
-        let told = left.looks().filter(|&own| left.given.core[own].aborts > 0);
+    faults.push(fault("a read-only one waits after a setback", |left| {
+        let told = left.read_only_commit().filter(|&own| left.given.core[own].aborts > 0);
         if let Some(first) = told.and_then(|own| first_in_the_way(left.given, own)) {
             left.says(WAITS, first as u32);
         }
@@ -266,7 +282,7 @@ fn read_only() -> Vec<Fault> {
             left.says(COMMITTED, left.given.core[core as usize].aborts);
         }
     }));
-    faults.push(fault("nobody waits for one that only looks", |left| {
+    faults.push(fault("nobody waits for a read-only one", |left| {
         if let (WAITS, Call::Commit { core }) = (left.kind, left.call) {
             let record = left.given;
             if record.in_the_way(core as usize).all(|other| record.core[other].read_only()) {
@@ -274,26 +290,50 @@ fn read_only() -> Vec<Fault> {
             }
         }
     }));
-    faults.push(fault("the commit of one that only looks raises a version", |left| {
-        if let Some(object) = left.looks().and_then(|own| first_read(left.given, own)) {
+    faults.push(fault("a read-only commit raises a version", |left| {
+        if let Some(object) = left.read_only_commit().and_then(|own| first_read(left.given, own)) {
             *left.word(VERSIONS + object) += 1;
         }
     }));
-    faults.push(fault("the commit of one that only looks strikes a reader", |left| {
-        let Some(own) = left.looks() else { return };
-        let shares =
-            |&other: &usize| left.given.core[other].read_set & left.given.core[own].read_set != 0;
-        if let Some(other) = others(left.given, own).find(shares) {
-            let aborts = core_place(other) + JOB_WORDS + ABORTS;
-            *left.word(aborts) += 1;
+    faults.push(fault("a read-only commit strikes a reader", |left| {
+        let Some(own) = left.read_only_commit() else { return };
+        if let Some(other) = sharing(left.given, own).next() {
+            left.strike(other);
         }
     }));
-    faults.push(fault("the commit of one that only looks is not counted", |left| {
-        if left.looks().is_some() {
+    faults.push(fault("a read-only commit is not counted", |left| {
+        if left.read_only_commit().is_some() {
             *left.word(COMMITS) -= 1;
         }
     }));
     faults
+}
+
+/// Those that have read one card and written others are in conflict, or are
+/// struck.
+fn shared_reads() -> Vec<Fault> {
+    let conflict = fault("one waits for an earlier one that has read the same", |left| {
+        let Some(own) = left.writing_commit() else { return };
+        let record = left.given;
+        let earlier = |&other: &usize| record.core[other].ticket < record.core[own].ticket;
+        if let Some(other) = sharing(record, own).find(earlier) {
+            left.says(WAITS, other as u32);
+        }
+    });
+    let strike = fault("a commit strikes one that has read the same", |left| {
+        let Some(own) = left.writing_commit() else { return };
+        let spared = |&other: &usize| !left.given.core[own].conflicts_with(&left.given.core[other]);
+        if let Some(other) = sharing(left.given, own).find(spared) {
+            left.strike(other);
+        }
+    });
+    vec![conflict, strike]
+}
+
+/// The other transactions that have read what this one has read.
+fn sharing(record: &Record, own: usize) -> impl Iterator<Item = usize> + '_ {
+    let shares = move |&other: &usize| record.core[other].read_set & record.core[own].read_set != 0;
+    others(record, own).filter(shares)
 }
 
 /// The core with the smallest conflicting ticket, if that is a smaller one.

@@ -6,7 +6,7 @@ use super::judge::World;
 use super::words::{numbers, Told, CALLS, KINDS};
 use crate::answer::Answer;
 use crate::call::Call;
-use crate::looking::{Looking, CASES};
+use crate::readers::{ReaderCases, CASES};
 use crate::record::{Record, MAX_OBJECTS, MAX_TICKETS};
 use crate::refusal;
 use crate::set::only;
@@ -118,8 +118,8 @@ pub struct Tally {
     broken: BTreeMap<usize, [u64; 8]>,
     misfits: [[u64; 8]; 6],
     sights: BTreeMap<&'static str, u64>,
-    /// What the run so far says of those that only look.
-    looking: Looking,
+    /// What the run so far says of readers.
+    readers: ReaderCases,
 }
 
 impl Tally {
@@ -158,9 +158,9 @@ impl Tally {
             (Call::Commit { core }, _) => self.see_commit(given, core as usize, answer),
             _ => {}
         }
-        let mut aside = Looking::default();
-        let looking = if part == RUNS { &mut self.looking } else { &mut aside };
-        let cases = looking.see(given, call, answer, committed, pending);
+        let mut aside = ReaderCases::default();
+        let readers = if part == RUNS { &mut self.readers } else { &mut aside };
+        let cases = readers.see(given, call, answer, committed, pending);
         for (case, met) in CASES.into_iter().zip(cases) {
             self.see(case, met);
         }

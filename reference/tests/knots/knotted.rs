@@ -6,7 +6,7 @@ use cards_reference::answer::Answer;
 use cards_reference::call::Call;
 use cards_reference::contended::Subject;
 use cards_reference::machine::Machine;
-use cards_reference::record::{Record, MAX_CORES};
+use cards_reference::record::{Core, Record, MAX_CORES};
 use cards_reference::set::{only, Set};
 
 /// What is wrong with the machine.
@@ -46,12 +46,16 @@ pub enum Knot {
     NamesLater,
     /// or a core with no transaction.
     NamesIdle,
-    /// One that only looks waits like any other,
+    /// A read-only one waits like any other,
     ReaderWaits,
     /// or nobody waits for it,
     ReaderPassed,
     /// or its commit raises the versions of what it read.
     ReaderRaises,
+    /// One that has written waits for an earlier one that has read the same,
+    ReadersConflict,
+    /// or its commit strikes whoever has read the same.
+    ReadersStruck,
     /// Every borrower is refused.
     RefusesAll,
     /// Tickets are said to be spent.
@@ -125,6 +129,12 @@ impl Knotted {
                     return Answer::Waits { core: other as u32 };
                 }
             }
+            Knot::ReadersConflict if !before.core[core].read_only() => {
+                let earlier = |&c: &usize| before.core[c].ticket < before.core[core].ticket;
+                if let Some(other) = sharing(&before, core).find(earlier) {
+                    return Answer::Waits { core: other as u32 };
+                }
+            }
             Knot::ReaderPassed if readers_only(&before, core) => self.go_first(core),
             Knot::WriteSetsOnly => self.hide_reads(),
             Knot::NoTickets => self.go_first(core),
@@ -142,6 +152,9 @@ impl Knotted {
                 let read = before.core[core].read_set;
                 let versions = self.machine.record.versions.iter_mut().enumerate();
                 versions.for_each(|(d, version)| *version += u32::from(read & only(d) != 0));
+            }
+            Knot::ReadersStruck if matches!(answer, Answer::Committed(_)) => {
+                sharing(&before, core).for_each(|c| strike(&mut self.machine.record.core[c]));
             }
             Knot::KeptSets => self.bury_dead(&before),
             Knot::MovesNothing => self.machine.committed_mut().copy_from_slice(&table),
@@ -248,9 +261,24 @@ impl Knotted {
     }
 }
 
-/// Whether all in the way of this core only look.
+/// Whether all in the way of this core are read-only.
 fn readers_only(record: &Record, core: usize) -> bool {
     record.in_the_way(core).all(|other| record.core[other].read_only())
+}
+
+/// The other transactions that have read what this one has read.
+fn sharing(record: &Record, core: usize) -> impl Iterator<Item = usize> + '_ {
+    let read_set = record.core[core].read_set;
+    (0..MAX_CORES).filter(move |&c| c != core && record.core[c].read_set & read_set != 0)
+}
+
+/// Sets a transaction back that the commit has not struck.
+fn strike(core: &mut Core) {
+    if !core.zombie {
+        (core.read_set, core.write_set) = (0, 0);
+        core.aborts += 1;
+        core.zombie = true;
+    }
 }
 
 /// The next ticket; the old one counts as given up, so that the sum is right.

@@ -1,6 +1,6 @@
-//! Paper 4 of document 02: an attempt that only looks ends with its own commit
-//! when that is requested. Its first commit that is not answered set back is
-//! answered committed: never waits, and it is not refused.
+//! Paper 4 of document 02: an unmarked read-only attempt ends with its own commit
+//! when that is requested: it never waits, and it is not refused. That it is not
+//! set back either without a strike that was not told is checked in `told`.
 
 use super::history::{Event, History};
 use super::report::{Claim, Report};

@@ -74,13 +74,13 @@ fn it_passes_several_earlier_ones_and_readers_of_its_cards_stay() {
 }
 
 #[test]
-fn a_later_writer_waits_for_an_earlier_looker() {
+fn a_later_writer_waits_for_an_earlier_read_only_one() {
     let mut machine = machine(&BEGUN);
     say_all(&mut machine, &["read 1 4 -", "write 2 4 8"]);
     let before = machine.record;
     assert_eq!(say(&mut machine, "commit 2 - -"), Answer::Waits { core: 1 });
     assert_eq!(machine.record, before);
-    // Of two lookers the one begun first is named.
+    // Of two read-only ones the one begun first is named.
     say(&mut machine, "read 0 4 -");
     assert_eq!(say(&mut machine, "commit 2 - -"), Answer::Waits { core: 0 });
     assert_eq!(say(&mut machine, "commit 0 - -"), Answer::Committed(0));
@@ -91,7 +91,7 @@ fn a_later_writer_waits_for_an_earlier_looker() {
 }
 
 #[test]
-fn an_earlier_writer_strikes_a_later_looker() {
+fn an_earlier_writer_strikes_a_later_read_only_one() {
     let mut machine = machine(&BEGUN);
     say_all(&mut machine, &["read 2 4 -", "write 0 4 8"]);
     assert_eq!(say(&mut machine, "commit 0 - -"), Answer::Committed(0));
@@ -99,7 +99,7 @@ fn an_earlier_writer_strikes_a_later_looker() {
 }
 
 #[test]
-fn a_marked_looker_is_told_by_its_commit_and_the_next_commits() {
+fn a_marked_read_only_one_is_told_by_its_commit_and_the_next_commits() {
     let mut machine = machine(&BEGUN);
     say_all(&mut machine, &["read 2 4 -", "write 0 4 8", "write 1 5 9", "commit 0 - -"]);
     let mut expected = machine.record;
@@ -110,7 +110,7 @@ fn a_marked_looker_is_told_by_its_commit_and_the_next_commits() {
 }
 
 #[test]
-fn a_marked_looker_reads_again_and_commits() {
+fn a_marked_read_only_one_reads_again_and_commits() {
     let mut machine = machine(&BEGUN);
     say_all(&mut machine, &["read 2 4 -", "write 0 4 8", "write 1 4 9", "commit 0 - -"]);
     assert!(machine.record.core[1].zombie && machine.record.core[2].zombie);
@@ -125,7 +125,7 @@ fn a_marked_looker_reads_again_and_commits() {
 }
 
 #[test]
-fn one_that_wrote_and_was_set_back_comes_back_as_a_looker() {
+fn one_that_wrote_and_was_set_back_comes_back_as_a_read_only_one() {
     let mut machine = machine(&BEGUN);
     say_all(&mut machine, &["write 2 4 7", "write 0 4 8"]);
     assert_eq!(say(&mut machine, "commit 2 - -"), Answer::Waits { core: 0 });
@@ -139,7 +139,7 @@ fn one_that_wrote_and_was_set_back_comes_back_as_a_looker() {
 }
 
 #[test]
-fn one_that_looked_and_was_set_back_may_come_back_as_a_writer() {
+fn one_that_only_read_and_was_set_back_may_come_back_as_a_writer() {
     let mut machine = machine(&BEGUN);
     say_all(&mut machine, &["read 2 4 -", "write 0 4 8", "commit 0 - -", "read 2 4 -"]);
     say_all(&mut machine, &["read 1 4 -", "write 2 4 7"]);
@@ -155,11 +155,11 @@ fn one_that_did_nothing_commits() {
 }
 
 #[test]
-fn one_that_wrote_the_value_that_a_card_had_is_no_looker() {
+fn one_that_wrote_the_value_that_a_card_had_is_not_read_only() {
     let mut machine = machine(&BEGUN);
     say_all(&mut machine, &["write 0 4 8", "write 2 4 0"]);
     assert_eq!(say(&mut machine, "commit 2 - -"), Answer::Waits { core: 0 });
-    // The same for a card that it had read before, and where the other only looks.
+    // The same for a card that it had read before, and where the other is read-only.
     say_all(&mut machine, &["giveup 0 - -", "read 1 4 -", "read 2 4 -"]);
     assert_eq!(say(&mut machine, "commit 2 - -"), Answer::Waits { core: 1 });
 }
