@@ -8,7 +8,7 @@
 # Usage: tests/knots.sh [LABEL ..]; KEEP=DIR keeps the logs there; EDITS=DIR has other edits (make guards: tests/knots/guards)
 set -u
 cd "$(dirname "$0")/.." || exit 1
-. tests/judge.sh || exit 1
+. tests/judge.sh && . tests/apply.sh || exit 1
 work=$(mktemp -d)
 trap 'rm -rf "$work"' EXIT
 
@@ -27,44 +27,13 @@ if ! (cd "$work/base" && rt check objset) >"$work/base.log" 2>&1; then
   exit 1
 fi
 
-# apply EDIT DIR: makes the edit's replacements under DIR/crates; says what is wrong with it, if anything is
-apply() {
-  local line file='' old='' new pairs=0
-  while IFS= read -r line || [ -n "$line" ]; do
-    case $line in
-    'file: '*) file=${line#file: } ;;
-    'old: '*) old=${line#old: } ;;
-    'new:'*)
-      new=${line#new:}
-      new=${new# }
-      case $file in core/* | machine/*) ;; *) echo "'$file' is no file of core or machine"; return 1 ;; esac
-      case $file in *..*) echo "'$file' leads out of the crates"; return 1 ;; esac
-      [ -f "$2/crates/$file" ] || { echo "there is no file $file"; return 1; }
-      OLD=$old NEW=$new awk '
-        { text = text $0 "\n" }
-        END {
-          old = ENVIRON["OLD"]
-          at = old == "" ? 0 : index(text, old)
-          if (!at) exit 3
-          rest = substr(text, at + length(old))
-          if (index(rest, old)) exit 4
-          printf "%s%s%s", substr(text, 1, at - 1), ENVIRON["NEW"], rest
-        }' "$2/crates/$file" >"$2/edited" || { echo "an 'old:' text is not in $file, or more than once: $old"; return 1; }
-      mv "$2/edited" "$2/crates/$file"
-      old=''
-      pairs=$((pairs + 1))
-      ;;
-    esac
-  done <"$1"
-  [ "$pairs" -gt 0 ] || { echo "it changes nothing"; return 1; }
-}
-
 # try EDIT: proves core with the edit and checks machine over it; says what is wrong, unless machine is refused
 try() {
   local copy
   copy=$work/$(basename "$1" .edit)
   cp -r "$work/base" "$copy"
-  apply "$1" "$copy" || return
+  if grep '^file: ' "$1" | grep -qvE '^file: (core|machine)/'; then echo "it changes a file that is not of core or machine"; return; fi
+  apply "$1" "$copy/crates" || return
   (cd "$copy" && RT_CUT=0 RT_JOBS=1 rt check core) >"$copy/core.log" 2>&1 || { echo "core is refused"; grep -m 3 ': error' "$copy/core.log"; return; }
   if (cd "$copy" && RT_CUT=0 RT_JOBS=1 rt check machine) >"$copy/machine.log" 2>&1; then echo "machine is still proved"; return; fi
   grep -q '^logic=not-proved' "$copy/machine.log" || { echo "machine did not reach the prover"; head -n 5 "$copy/machine.log"; }

@@ -34,6 +34,7 @@ counted() {
 # nothing that an earlier run has built is trusted; rt ci does the same with target/
 rm -rf build
 
+part "each edit fits its files" tests/applies.sh
 # rt waits for a whole batch before it starts the next; with four in a batch no core is idle for long
 part "proofs, must-fail edits and programs (rt ci)" env RT_JOBS="${RT_JOBS:-4}" rt ci
 part "what each edit makes wrong, judged by its log" tests/edits.sh
