@@ -3,16 +3,18 @@
 use mathlib.Core.Path.{_≡_, refl}
 use mathlib.Core.List.{List, [], _∷_, _++_, map}
 use Prim.Native.Nat.{ℕ, _*_}
-use lib.ListN.{replicate}
+use lib.ListN.{drop, length, replicate}
 use Rattle.objset.specs.Objset.{has, collect, some, each, none, isEmpty, added, joined, meeting, below}
 use Rattle.core.specs.declared.Answer.the-variants.{Ready, Running, Begun, Value, Written, Waits, Committed, SetBack, Ended, Refused}
 use Rattle.core.specs.Parts.{least, running}
 use Rattle.core.specs.Calls.{first}
 use Rattle.core.specs.Life.{struckBy}
+use Rattle.machine.specs.Answers.{kind, values}
 use Rattle.machine.specs.Record.{tally}
 use Rattle.machine.specs.Sound.{inRange, setsWithin, ownerListed, idleClear, zombieEmpty, fewJobs, unusedJobs, lackedCores, lackedObjects, ownerFirst, ticketsDiffer, ticketsGiven, ticketsCounted, versionsBounded, smallerTickets, abortsBounded, sound}
 use Rattle.machine.specs.Rule.{World, Call, Release, Begin, Read, Write, Commit, GiveUp, unless, unlessLent, setup, released, release, begun, begin, setBackTold, accessRefusal, valueRead, valued, read, written, write, contender, blocked, leastBy, cleared, changed, through, commitRefusal, commit, ended, giveUp, finished, finish, rule}
-use Rattle.machine.specs.Words.{Event}
+use Rattle.machine.specs.Words.{Event, amounts, deeds}
+use Rattle.machine.proofs.Run.TightRun as Run
 use Rattle.machine.proofs.Run.EveryList.{played}
 use Rattle.examples_run.proofs.Examples.{Expected, _⇝_, exampleA}
 
@@ -70,3 +72,8 @@ pub both-played : (played (start 2 2) [] (calls (exampleA .calls)) ≡ events []
     × (played (start 2 1) [] (calls tightRun) ≡ events [] tightRun)
 unfolding exampleA opening tight last afterwards played events rule setup first unless unlessLent released release begun begin setBackTold accessRefusal valueRead valued read written write contender blocked leastBy struckBy cleared changed through commitRefusal commit ended giveUp finished finish tally least running inRange setsWithin ownerListed idleClear zombieEmpty fewJobs unusedJobs lackedCores lackedObjects ownerFirst ticketsDiffer ticketsGiven ticketsCounted versionsBounded smallerTickets abortsBounded sound has collect some each none isEmpty added joined meeting below
 both-played = (refl, refl)
+
+-- up to its last round the tight run has the deeds of which machine's laws show that neither bound can be smaller
+pub tight-played : drop (length afterwards) (deeds (events [] tightRun)) ≡ Run.tight
+unfolding opening tight last afterwards events amounts deeds kind values Run.early Run.start Run.five Run.tight
+tight-played = refl

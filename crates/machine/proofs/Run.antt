@@ -9,7 +9,7 @@ mod Served
 mod FirstNamed
 pub mod ShortAttempts
 pub mod CountedRounds
-mod TightRun
+pub mod TightRun
 mod InventedSetback
 mod Attempts
 mod Moments
