@@ -1,6 +1,8 @@
 // Lists of calls on one machine, run through the public calls and in place on the record, for bench/. A list is numbers: the
 // lower four bits say what is done, the rest is the core. What a list gives is specs/Lists.antt. `inside_run` asks for a sound record and
 // tables of the right lengths.
+#![tactic(auto)]
+
 ghost use Rattle.std.specs.Prelude.{◌≡◌, if◌then◌else◌};
 ghost use Rattle.std.specs.declared.Answer.TheVariants.{Ready, Refused};
 ghost use Rattle.machine.specs.Rule.{lent, setup as setupRule};
@@ -113,7 +115,7 @@ fn door_step(
 }
 
 // What a number of a list asks for, beside SAVE and RESTORE: a call that concerns one core, a commit, or no call.
-#[derive(Drop)]
+#[derive(Clone, Copy)]
 enum Ask {
     One(Act),
     Commit,

@@ -2,6 +2,8 @@
 // (tests/compare.sh). Every record can be spelt, sound or not. It is a test's door, and no part of the product. It is proved to be safe
 // and to end; what the words hold after a call it does not promise, for that is what is compared.
 // The functions that read and write parts of the words ask that the part is within them.
+#![tactic(auto)]
+
 ghost use Rattle.std.specs.Prelude.{◌≡◌, ◌<◌, length, ◌≢◌};
 
 use one_core::{Answer, CORES, Core, JOBS, Job};
@@ -225,7 +227,7 @@ fn put_machine(words: &mut [u32], m: Machine) {
 // ---- the call
 
 // The answer as a number for its kind and two values.
-#[derive(Drop)]
+#[derive(Clone, Copy)]
 struct Told {
     kind: u32,
     first: u32,

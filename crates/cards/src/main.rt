@@ -2,6 +2,8 @@
 // chunk of the script, its part of the listing, and the machine. A read or a write that fails ends the run with a line on standard
 // error. With an argument nothing is read or listed: a line on standard error says how the program is used. `run` asks
 // for a reading that fits its tables, and room for what may be written.
+#![tactic(auto)]
+
 ghost use Rattle.std.specs.Prelude.{◌≡◌, ◌≤◌, length};
 ghost use Rattle.runner.specs.Kept.{ReadingFits};
 

@@ -3,13 +3,15 @@
 // The contracts cite `specs/`: `spelling n` is how n is written, and `read_as_number field` what a field reads
 // as. `proofs/Laws.antt` has what a caller knows of them. The public functions require nothing; `fill`
 // has a condition.
+#![tactic(auto)]
+
 ghost use Rattle.std.specs.Prelude.{◌≡◌, ◌≤◌, ◌++◌, length, drop};
 ghost use Rattle.decimal.specs.Spelling.{spelling, shown, printed};
 ghost use Rattle.decimal.specs.Reading.{no_leading_zero, read_as_number};
 ghost use Rattle.decimal.specs.Scratch.{keeps_from};
 
 // What a field reads as.
-#[derive(Drop)]
+#[derive(Clone, Copy)]
 pub enum Number {
     Value(u32),
     Malformed,

@@ -1,6 +1,8 @@
 // Runs case A of document 01 through the runner's doors, seven bytes at a time, and prints its listing. Before the last line ends it
 // hands in what does not fit, and prints the number of each refusal: nothing is lost by them. `piece_end` and `show` ask that
 // what they are told of is there.
+#![tactic(auto)]
+
 ghost use Rattle.std.specs.Prelude.{◌+◌, ◌≤◌, ◌<◌, length};
 
 use libc::STDOUT_FILENO;

@@ -1,5 +1,7 @@
 // The C entry (include/cards.h): a script in, its listing out; `sheets` has the functions on sheets. `cards_run` has no condition; `newlines`
 // and `chunk_end` beneath it have one each, on lengths.
+#![tactic(auto)]
+
 mod sheets;
 
 ghost use Rattle.std.specs.Prelude.{◌≡◌, cond, ◌++◌, ◌+◌, ◌≤◌, ◌<◌, leb, length, drop};

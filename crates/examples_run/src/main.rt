@@ -1,5 +1,7 @@
 // Runs the eight calls over the rows of the documents' examples, and writes each answer with its value in the words of
 // the document's listing: a heading for each example, a line for each call.
+#![tactic(auto)]
+
 ghost use Rattle.std.specs.Prelude.{◌≤◌};
 
 use crate::rows::{COUNT, Call, ROWS, Row, row_at};
@@ -15,7 +17,7 @@ const COMMITTED_WORDS: usize = objset::OBJECTS;
 const PENDING_WORDS: usize = one_core::CORES * objset::OBJECTS;
 
 // How many words of the two tables a call is lent.
-#[derive(Drop)]
+#[derive(Clone, Copy)]
 struct Sizes {
     cards: usize,
     words: usize,

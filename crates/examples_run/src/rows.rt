@@ -353,7 +353,7 @@ pub const ROWS: [u64; COUNT] = [
 ];
 
 // One of the eight calls.
-#[derive(Drop)]
+#[derive(Clone, Copy)]
 pub enum Call {
     Setup { cores: u32, cards: u32 },
     Release { core: u32, job: u16, deadline: u32 },
@@ -366,7 +366,7 @@ pub enum Call {
 }
 
 // What a row stands for.
-#[derive(Drop)]
+#[derive(Clone, Copy)]
 pub enum Row {
     Call(Call),
     Heading(u32),

@@ -2,6 +2,8 @@
 // the input than a sheet can have is kept, and the rest is not read (proofs/Kept.antt: what is printed of it is what is printed of all).
 // A read or a write that fails ends the run with a line on standard error. With an argument nothing is read or printed: a line on
 // standard error says how the program is used. `run` asks for room for what may be printed.
+#![tactic(auto)]
+
 mod text;
 
 ghost use Rattle.std.specs.Prelude.{◌≤◌, length};

@@ -2,6 +2,8 @@
 //
 // The contracts cite `specs/Text.antt`: `line n a` is the line for line n of the script, and `put` what putting a text over the first
 // bytes of an output leaves there. `proofs/Laws.antt` has what a caller knows of them. The functions require nothing.
+#![tactic(auto)]
+
 ghost use Rattle.std.specs.Prelude.{◌≡◌, length, take};
 ghost use Rattle.decimal.specs.Spelling.{spelling};
 ghost use Rattle.listing.specs.Text.{heading, spaced, value_text, field_text, line, fitting, put, fitting_at, placed};
@@ -9,7 +11,7 @@ ghost use Rattle.listing.specs.Text.{heading, spaced, value_text, field_text, li
 use one_core::Answer;
 
 // An answer's value: a number, or `-`.
-#[derive(Drop)]
+#[derive(Clone, Copy)]
 enum Field {
     Number(u32),
     Dash,
@@ -17,7 +19,7 @@ enum Field {
 
 // What stands between a line's number and its newline: a text whose first bytes are the answer's word
 // between two spaces, how many they are, and the value.
-#[derive(Drop)]
+#[derive(Clone, Copy)]
 struct Said([u8; 11], usize, Field);
 
 // Any line of a listing fits into so many bytes.

@@ -1,6 +1,8 @@
 // Owns a list of tasks, lends the first places of it to the sheet reader, shares them with the functions for levels and groups, and prints what
 // comes of some sheets: the reader's answer, each task's levels and group, and the task in the place after the last. `by_list` and `show` ask that
 // the list has as many places as are lent.
+#![tactic(auto)]
+
 ghost use Rattle.std.specs.Prelude.{◌≡◌, ◌≤◌};
 ghost use Rattle.sheet.specs.Sheet.{sheet_tasks};
 ghost use Rattle.lists_run.specs.Listed.{places, listed_of};
@@ -23,7 +25,7 @@ const MARK: Task = Task {
 };
 
 // What comes of a sheet: the reader's answer, the levels and groups of the tasks that it counted, and the task in the place after them.
-#[derive(Drop)]
+#[derive(Clone, Copy)]
 struct Listed {
     filled: Filled,
     levels: Levels,

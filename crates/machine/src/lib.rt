@@ -1,6 +1,8 @@
 // The machine's record (document 01: the record that each call but setup takes and all hand back), what a call hands back, and the
 // eight calls. Each promise is an equation with the rule (specs/Rule.antt) for the answer,
 // the whole record and every word of both tables, for every record, sound or not, and every table length.
+#![tactic(auto)]
+
 ghost use Rattle.std.specs.Prelude.{◌≡◌, ◌*◌, ◌&&◌, [], ◌==◌};
 ghost use Rattle.machine.specs.Sound.{sound, is_blank};
 ghost use Rattle.machine.specs.Rule as Rule;
@@ -22,7 +24,7 @@ pub mod inside;
 mod setup;
 mod soundness;
 
-#[derive(Drop)]
+#[derive(Clone, Copy)]
 pub struct Machine {
     // how many cores and objects (document 01: cards) there are
     pub cores: u8,
@@ -37,7 +39,7 @@ pub struct Machine {
 }
 
 // What a call hands back: the record after it and its answer. The record stands first, which saves the compiler copies of it.
-#[derive(Drop)]
+#[derive(Clone, Copy)]
 pub struct Outcome {
     pub machine: Machine,
     pub answer: Answer,

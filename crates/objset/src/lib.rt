@@ -2,6 +2,8 @@
 // of weight 2 to the power d, is 1. A set holds objects from 0 to 63; any other number is outside every set.
 // Each promise is an equation with a definition of specs/Objset.antt and holds for any numbers; those of the public functions speak of
 // membership alone.
+#![tactic(auto)]
+
 ghost use Rattle.std.specs.Prelude.{◌≡◌};
 ghost use Rattle.objset.specs.Objset.{mask_of, has, none, is_empty, first_object, added, removed, joined, meeting, below};
 

@@ -9,7 +9,7 @@ use crate::{Answer, CORES, Core};
 pub const NOBODY: u8 = CORES as u8;
 
 // A call that concerns one core, without that core.
-#[derive(Drop)]
+#[derive(Clone, Copy)]
 pub enum Act {
     // job number, deadline
     Release(u16, u32),
@@ -24,7 +24,7 @@ pub enum Act {
 
 // What such a call sees beside its core: the counts of tickets and give-ups, and of its object the committed value, the core's pending
 // value and the version.
-#[derive(Drop)]
+#[derive(Clone, Copy)]
 pub struct Seen {
     pub tickets: u32,
     pub give_ups: u32,
@@ -34,7 +34,7 @@ pub struct Seen {
 }
 
 // What it leaves: the core, the counts and the pending value; and its answer.
-#[derive(Drop)]
+#[derive(Clone, Copy)]
 pub struct Acted {
     pub core: Core,
     pub tickets: u32,
@@ -45,7 +45,7 @@ pub struct Acted {
 
 // What a commit leaves on its own core: the core, the write set that it commits (empty, where it does not go through), how many
 // commits that is; and its answer.
-#[derive(Drop)]
+#[derive(Clone, Copy)]
 pub struct Settled {
     pub core: Core,
     pub writes: u64,

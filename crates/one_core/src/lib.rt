@@ -1,5 +1,7 @@
 // One core of the machine: its list of jobs and its transaction (document 01); what one core keeps by itself, and what a call gives
 // there. The whole machine is the crate above. Each promise is an equation with a definition of specs/.
+#![tactic(auto)]
+
 ghost use Rattle.std.specs.Prelude.{◌≡◌};
 ghost use Rattle.one_core.specs.Parts.{blank_core};
 
@@ -15,14 +17,14 @@ pub const CORES: usize = 16;
 pub const JOBS: usize = 8;
 
 // A job in a core's list.
-#[derive(Drop)]
+#[derive(Clone, Copy)]
 pub struct Job {
     pub number: u16,
     pub deadline: u32,
 }
 
 // One core: its list of jobs and its transaction. The small fields stand together, which saves the compiler copies of what lies between.
-#[derive(Drop)]
+#[derive(Clone, Copy)]
 pub struct Core {
     // the list, in order of release; the places from count on are unused
     pub jobs: [Job; JOBS],
@@ -42,7 +44,7 @@ pub struct Core {
 }
 
 // What a call answers.
-#[derive(Drop)]
+#[derive(Clone, Copy)]
 pub enum Answer {
     Ready,
     Running,

@@ -2,6 +2,8 @@
 // a call. Of the machine it takes the number of cores alone: 0, and there is no machine.
 //
 // The contracts cite `specs/Asks.antt`. The public function requires nothing.
+#![tactic(auto)]
+
 ghost use Rattle.std.specs.Prelude.{◌≡◌};
 ghost use Rattle.script.specs.Line.{names, spells};
 ghost use Rattle.request.specs.Asks.{of_names, made, unfounded, of_line, asks};
@@ -13,7 +15,7 @@ use script::{Call, Columns, Line, Names};
 const MOST_LINES: u32 = 1_000_000;
 
 // What a line asks for.
-#[derive(Drop)]
+#[derive(Clone, Copy)]
 pub enum Asked {
     // the line of names: the order of the fields of the other lines; nothing is listed of it
     Order(Columns),

@@ -3,6 +3,8 @@
 // `Reading::start`, then `feed` for each chunk, then `finish`: the outputs together, after the heading, are the listing of the chunks
 // together (specs/Listing.antt), however the script is cut. Any reading, tables and output may be handed in: what does not fit is
 // refused, and the reading comes back as given.
+#![tactic(auto)]
+
 ghost use Rattle.std.specs.Prelude.{◌≡◌, ℕ, ◌≤◌, false, List, [], ◌++◌, length, take, drop, if◌then◌else◌, ◌==◌, nat_eq};
 ghost use Rattle.runner.specs.Kept.{ReadingFits, rest, state, started, fed, at_end};
 ghost use Rattle.runner.specs.Doors.{refusal};
@@ -32,7 +34,7 @@ pub const LINE_ROOM: usize = 32;
 pub const NO_ROOM: u8 = 100;
 
 // What is kept of a script between two chunks.
-#[derive(Drop)]
+#[derive(Clone, Copy)]
 pub struct Reading {
     // whether lines are still read
     pub going: bool,
@@ -47,14 +49,14 @@ pub struct Reading {
 }
 
 // What a chunk leaves, and how many bytes of the output were written.
-#[derive(Drop)]
+#[derive(Clone, Copy)]
 pub struct Fed {
     pub reading: Reading,
     pub written: usize,
 }
 
 // The same, with the number of a refusal, or 0. Refused, nothing is written and the reading is as given.
-#[derive(Drop)]
+#[derive(Clone, Copy)]
 pub struct Taken {
     pub reading: Reading,
     pub written: usize,

@@ -3,6 +3,8 @@
 //
 // `order` reads the first line, and `parse` each other line, both over `table`. Their contracts cite `specs/`; `proofs/Laws.antt` has what
 // a caller knows of what stands there. The public functions require nothing.
+#![tactic(auto)]
+
 mod calls;
 mod heading;
 
@@ -13,7 +15,7 @@ pub use heading::order;
 const LONGEST: usize = 64;
 
 // A call as a script spells it: its numbers, whatever they are.
-#[derive(Drop)]
+#[derive(Clone, Copy)]
 pub enum Call {
     // cores, cards
     Setup(u32, u32),
@@ -30,14 +32,14 @@ pub enum Call {
 }
 
 // The parsed line: the call that it spells, or that it spells none.
-#[derive(Drop)]
+#[derive(Clone, Copy)]
 pub enum Line {
     Spells(Call),
     Malformed,
 }
 
 // Where each field stands in a line, counted from 0.
-#[derive(Drop)]
+#[derive(Clone, Copy)]
 pub struct Columns {
     pub call: usize,
     pub core: usize,
@@ -46,14 +48,14 @@ pub struct Columns {
 }
 
 // The parsed line of names: the order of the fields, or that it is bad.
-#[derive(Drop)]
+#[derive(Clone, Copy)]
 pub enum Names {
     Order(Columns),
     Malformed,
 }
 
 // What the field of the call's name says.
-#[derive(Drop)]
+#[derive(Clone, Copy)]
 enum Verb {
     Setup,
     Release,
@@ -67,7 +69,7 @@ enum Verb {
 }
 
 // What stands in a field of a number.
-#[derive(Drop)]
+#[derive(Clone, Copy)]
 enum Field {
     // `-`
     Unused,

@@ -3,6 +3,8 @@
 // `read_into` is the sheet reader: it puts the tasks into a list that the caller lends. `levels` has such a list of its own, and gives the tasks'
 // levels. `shipped` has the sheet that the kit ships with, and its levels. The contracts cite `specs/`; `proofs/Laws.antt` has what a caller knows of
 // what stands there. The public functions require nothing.
+#![tactic(auto)]
+
 mod cards;
 mod lending;
 mod line;
@@ -16,14 +18,14 @@ pub use reading::LONGEST_SHEET;
 use taskset::Task;
 
 // What a line of a sheet spells: a task, or none.
-#[derive(Drop)]
+#[derive(Clone, Copy)]
 enum TaskLine {
     Spells(Task),
     Malformed,
 }
 
 // What stands in the field of the cards: a set of them, or none.
-#[derive(Drop)]
+#[derive(Clone, Copy)]
 enum CardList {
     Cards(u64),
     Malformed,

@@ -5,6 +5,8 @@
 // the line reader, by which a line is cut. Their contracts cite `specs/`. What a caller knows of what stands there is in `proofs/`: `Laws`
 // of lines and pieces, `PieceEnds` of where a piece ends, `Cuts` of fields, `Ordering` of names. The public functions require nothing, but
 // for `inside::part`.
+#![tactic(auto)]
+
 mod cutting;
 mod ends;
 mod heading;
@@ -19,7 +21,7 @@ pub use heading::order;
 pub const MOST_FIELDS: usize = 5;
 
 // Where the fields of a line begin, and past the last where one more would. No fields, where the line has not as many as were asked for.
-#[derive(Drop)]
+#[derive(Clone, Copy)]
 pub struct Fields {
     pub begins: [usize; MOST_FIELDS + 1],
     pub count: usize,

@@ -5,7 +5,7 @@ ghost use Rattle.table.specs.Fields.{field_end, after_field};
 
 use crate::ends::{after_field, field_end};
 
-#[derive(Drop)]
+#[derive(Clone, Copy)]
 pub struct LineReader<'a> {
     pub line: &'a [u8],
     pub at: usize,

@@ -3,6 +3,8 @@
 // `fill` and `taken` go over the list, to and from a task set by value; `levels` and `groups` take the tasks and go by the functions on that,
 // which are those of `taskset`. A list may hold anything, and be of any length. The contracts cite `specs/Lists.antt`; `proofs/ListLaws.antt` has
 // what a caller knows of what stands there. The functions require nothing.
+#![tactic(auto)]
+
 ghost use Rattle.std.specs.Prelude.{◌≡◌};
 ghost use Rattle.taskset.specs.Tasks.{packed, standing};
 ghost use Rattle.taskset.specs.Groups.{groups_given};
@@ -14,7 +16,7 @@ ghost use Rattle.tasklist.specs.Lists.{fill_given, filled_list, first_of};
 use taskset::{Groups, Levels, TASKS, Task, TaskSet, groups_of, levels_of};
 
 // How many tasks were put into a list; or a refusal, which is 0 where there is none.
-#[derive(Drop)]
+#[derive(Clone, Copy)]
 pub struct Filled {
     pub count: usize,
     pub refusal: u8,

@@ -4,6 +4,8 @@
 // contracts cite `specs/`: the clause `rule` what is worked out, the clause `paper` paper 2's own sentences (`specs/Chains.antt` of groups,
 // `specs/Ceilings.antt` of levels), which follow from it by the laws of the same names. Which tasks are a task set: `proofs/TaskLaws.antt`.
 // The public functions require nothing: what is no task set is refused 13.
+#![tactic(auto)]
+
 
 mod contention;
 mod preemption;
@@ -17,7 +19,7 @@ pub use tasks::{LAST_CORE, is_among, is_task_set};
 pub const TASKS: usize = 32;
 
 // One task: its number, the core that it runs on, its relative deadline, and the set of objects (paper 2: cards) that its transaction uses.
-#[derive(Drop)]
+#[derive(Clone, Copy)]
 pub struct Task {
     pub number: u16,
     pub core: u8,
@@ -34,14 +36,14 @@ pub const NO_TASK: Task = Task {
 };
 
 // The tasks stand in the first `count` places, in the sheet's order.
-#[derive(Drop)]
+#[derive(Clone, Copy)]
 pub struct TaskSet {
     pub tasks: [Task; TASKS],
     pub count: usize,
 }
 
 // The levels of one task: the task's own, and its transaction's.
-#[derive(Drop)]
+#[derive(Clone, Copy)]
 pub struct Level {
     pub number: u16,
     pub task: u8,
@@ -49,7 +51,7 @@ pub struct Level {
 }
 
 // The levels of a task set, in the first `count` places, in its order; or a refusal, which is 0 where there is none.
-#[derive(Drop)]
+#[derive(Clone, Copy)]
 pub struct Levels {
     pub list: [Level; TASKS],
     pub count: usize,
@@ -58,7 +60,7 @@ pub struct Levels {
 
 // The contention groups of a task set: in the first `count` places for each task all cards of its group; or a refusal, which is 0 where
 // there is none.
-#[derive(Drop)]
+#[derive(Clone, Copy)]
 pub struct Groups {
     pub cards: [u64; TASKS],
     pub count: usize,

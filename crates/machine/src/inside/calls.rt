@@ -12,7 +12,7 @@ use one_core::inside::calls::act_on;
 
 // Where a call finds its core and its object (document 01: card): their places, or the number of the refusal with places that every
 // machine has.
-#[derive(Drop)]
+#[derive(Clone, Copy)]
 pub struct Found {
     pub core: usize,
     pub object: usize,
