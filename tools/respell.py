@@ -13,14 +13,25 @@ Functions of src/, exported C names, strings, inputs and outputs keep their name
 import os
 import re
 import subprocess
-import sys
 
 OLD, NEW = "core", "one_core"
 # a name whose snake case names something else here
 OTHER = {"allHold": "all_examples_hold", "outOfRange": "sizes_out_of_range", "readsAs": "read_as_number"}
 DECLARED = re.compile(r"^\s*(?:(?:pub|abbrev|unfoldable|data|record|mutual)\s+)*([^\s(){}.,;:]+)(?:\s+[({][^:]*)?\s+:\s")
-# port.py read these as modules of the library named core
-MODULES = {"Iterator.Adapters": "Parts", "Fn": "Calls"}
+# port.py read paths of the crate core as paths of that library, or of std, and some of its modules as theirs
+GARBLED = [
+    (r"\bRattle\.core\.specs\.Prelude\b", "Rattle.std.specs.Prelude"),
+    (r"\bRattle\.(?:core|std)\.specs\.Iterator\.Adapters\b", "Rattle.one_core.specs.Parts"),
+    (r"\bRattle\.(?:core|std)\.specs\.Fn\b", "Rattle.one_core.specs.Calls"),
+    (r"\bRattle\.std\.specs\.declared\.(Answer|Core|calls|Job)\b", r"Rattle.one_core.specs.declared.\1"),
+    (r"\bRattle\.std\.specs\.(Life|Tidy|Formed)\b", r"Rattle.one_core.specs.\1"),
+    (r"\bRattle\.std\.proofs\.(TestLaws|Tidy|Kept|CallLaws|LifeLaws|Jobs|TidyLaws|JobLaws)\b", r"Rattle.one_core.proofs.\1"),
+    (r"\bRattle\.core\.", "Rattle.one_core."),
+    (r"\bRattle·core\b", "Rattle·one_core"),
+    (r"(?<![\w:.])core::", "one_core::"),
+    # lemmas that it took for lemmas of std
+    (r"(?<![\w'-])[Ee]ach-(none|next|both|on)(?![\w'-])", r"each_\1"),
+]
 
 
 def files(*endings):
@@ -53,19 +64,16 @@ def snake(name):
 
 def core_paths(text):
     """Paths of the crate `core`, in any file."""
-    text = re.sub(r"\bRattle·core\b", "Rattle·" + NEW, text)
-    text = re.sub(r"\bRattle\.core\.specs\.Prelude\b", "Rattle.std.specs.Prelude", text)
-    for wrong, right in MODULES.items():
-        text = re.sub(r"\bRattle\.core\.specs\." + re.escape(wrong) + r"\b", "Rattle." + NEW + ".specs." + right, text)
-    text = re.sub(r"\bRattle\.core\.", "Rattle." + NEW + ".", text)
-    return re.sub(r"(?<![\w:.])core::", NEW + "::", text)
+    for wrong, right in GARBLED:
+        text = re.sub(wrong, right, text)
+    return text
 
 
 def own_names():
     """The names to turn: those in camel case of specs/ and proofs/, and the fields of specs/ with a dash."""
     turned = {}
     for path in files(".antt"):
-        lemmas = re.search(r"/specs/|/proofs/\w+\.antt$", path)
+        lemmas = re.search(r"/specs/|/proofs/(\w+/)*\w+\.antt$", path) and not path.endswith("Proof.antt")
         for line in read(path).split("\n"):
             m = DECLARED.match(line)
             if not m:
@@ -107,9 +115,8 @@ def parts_of_source(text):
 
 
 def main():
-    if not os.path.isdir("crates/" + OLD):
-        sys.exit("respell: there is no crate core: it has run already")
-    subprocess.run(["git", "mv", "crates/" + OLD, "crates/" + NEW], check=True)
+    if os.path.isdir("crates/" + OLD):
+        subprocess.run(["git", "mv", "crates/" + OLD, "crates/" + NEW], check=True)
     lines = read("crates.txt").split("\n")
     lines = [line if line.startswith("#") else re.sub(r"(?<![\w])core(?![\w])", NEW, line) for line in lines]
     write("crates.txt", "\n".join(lines))

@@ -7,7 +7,7 @@ use Rattle.machine.specs.OneCore.{call_of}
 use Rattle.machine.proofs.Case.{case-of}
 use Rattle.machine.proofs.Binds.{follows}
 use Rattle.machine.proofs.Sound.Keeps.{keeps-good}
-use Rattle.std.specs.declared.calls.Act.{Act}
+use Rattle.one_core.specs.declared.calls.Act.{Act}
 
 pub same-lengths : (m : Machine) (cs ps cs' ps' : List ℕ) → WellFormedWorld (lent m cs ps) → length cs' ≡ length cs → length ps' ≡ length ps
     → WellFormedWorld (lent m cs' ps')

@@ -6,8 +6,8 @@ use Rattle.machine.specs.Rule.{World, Result, lent, left, with_machine}
 use Rattle.machine.specs.Answers.{kind}
 use Rattle.machine.specs.declared.Machine.{Machine}
 use Rattle.machine.specs.declared.Outcome.{Outcome}
-use Rattle.std.specs.declared.Answer.{Answer}
-use Rattle.std.specs.declared.Answer.TheVariants.{Ready, Running, Queued, Begun, Value, Written, Waits, Committed, SetBack, Ended, Finished, Refused}
+use Rattle.one_core.specs.declared.Answer.{Answer}
+use Rattle.one_core.specs.declared.Answer.TheVariants.{Ready, Running, Queued, Begun, Value, Written, Waits, Committed, SetBack, Ended, Finished, Refused}
 use Rattle.std.specs.contracts.Answer as AnswerType
 use Rattle.bench_calls.specs.Lists.{number_of, door, inside, Progress, after_call, ready, after_number, run, door_run, inside_run}
 use Rattle.bench_calls.proofs.Steps.{Left}

@@ -4,11 +4,11 @@ use Rattle.machine.specs.Rule.{World, Result, lent, left, rule, Release, Begin, 
 use Rattle.machine.specs.Sound.{sound}
 use Rattle.machine.specs.declared.Machine.{Machine}
 use Rattle.machine.specs.declared.Outcome.{Outcome}
-use Rattle.std.specs.declared.Answer.TheVariants.{Ready, Refused}
+use Rattle.one_core.specs.declared.Answer.TheVariants.{Ready, Refused}
 use Rattle.machine.specs.OneCore.{call_of, struck_all, carried_out}
-use Rattle.std.specs.declared.calls.Settled.{Settled}
-use Rattle.std.specs.declared.calls.Act.TheVariants as Act
-use Rattle.std.specs.declared.calls.Act.{Act}
+use Rattle.one_core.specs.declared.calls.Settled.{Settled}
+use Rattle.one_core.specs.declared.calls.Act.TheVariants as Act
+use Rattle.one_core.specs.declared.calls.Act.{Act}
 use Rattle.bench_calls.specs.declared.Ask.{Ask}
 use Rattle.bench_calls.specs.declared.Ask.TheVariants as Ask
 use Rattle.bench_calls.specs.Lists.{number_of, called_by, asked_of, tested, door}

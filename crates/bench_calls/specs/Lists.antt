@@ -1,9 +1,9 @@
 -- What a list of calls gives: the number of the last answer, and the two tables.
 use Rattle.std.specs.Prelude.{ℕ, ◌+◌, ◌/◌, ◌%◌, cond, List, [], ◌∷◌, ◌==◌}
 use Rattle.machine.specs.declared.Machine.{Machine}
-use Rattle.std.specs.declared.Answer.{Answer}
-use Rattle.std.specs.declared.Answer.TheVariants.{Ready, Running, Queued, Begun, Value, Written, Waits, Committed, SetBack, Ended, Finished, Refused}
-use Rattle.std.specs.declared.calls.Act.TheVariants as Act
+use Rattle.one_core.specs.declared.Answer.{Answer}
+use Rattle.one_core.specs.declared.Answer.TheVariants.{Ready, Running, Queued, Begun, Value, Written, Waits, Committed, SetBack, Ended, Finished, Refused}
+use Rattle.one_core.specs.declared.calls.Act.TheVariants as Act
 use Rattle.bench_calls.specs.declared.Ask.{Ask}
 use Rattle.bench_calls.specs.declared.Ask.TheVariants as Ask
 use Rattle.machine.specs.Answers.{kind}

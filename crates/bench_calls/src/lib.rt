@@ -4,7 +4,7 @@
 #![tactic(auto)]
 
 ghost use Rattle.std.specs.Prelude.{◌≡◌, if◌then◌else◌};
-ghost use Rattle.std.specs.declared.Answer.TheVariants.{Ready, Refused};
+ghost use Rattle.one_core.specs.declared.Answer.TheVariants.{Ready, Refused};
 ghost use Rattle.machine.specs.Rule.{lent, setup as setupRule};
 ghost use Rattle.machine.specs.Inside.{WellFormedWorld};
 ghost use Rattle.machine.specs.Sound.{sound};

@@ -1,15 +1,15 @@
 -- A run in which so many rounds have passed since T's begin, and a computed test that finds that one has.
 use Rattle.std.proofs.Common.{◌≡◌, ℕ, suc, ◌*◌, Bool, true, ◌&&◌, eqb, ltb, List, [], ◌∷◌, ◌++◌, length, get_or, take, drop, replicate, sym, refl, ap, ◌∙◌, subst, true≢false, arith, take-append-drop, drop-cons, ltb-true, eqb-true}
 use Rattle.objset.proofs.Laws.{both_left, both_right}
-use Rattle.std.specs.declared.Answer.TheVariants.{Ready}
-use Rattle.std.specs.Iterator.Adapters.{most_cores}
+use Rattle.one_core.specs.declared.Answer.TheVariants.{Ready}
+use Rattle.one_core.specs.Parts.{most_cores}
 use Rattle.machine.specs.Record.{tally}
 use Rattle.machine.specs.Rule.{World, Call, setup}
 use Rattle.machine.specs.Words.{Event, Deed, begins, reads, writes, waits, commits, told, gives, other, deeds, begins_on, in_progress, births}
 use Rattle.machine.specs.Rounds.{Rounds, Fate, in-progress, committed, given-up, fate, AtMost}
 use Rattle.machine.specs.Claims.{Run, fresh}
-use Rattle.machine.proofs.Run.ShortAttempts.{allShort, at_most}
-use Rattle.machine.proofs.Run.CountedRounds.{allRounds, all-rounds}
+use Rattle.machine.proofs.Run.ShortAttempts.{all_short, at_most}
+use Rattle.machine.proofs.Run.CountedRounds.{all_rounds, all-rounds}
 use Rattle.machine.proofs.Run.EveryList.{played, played-runs}
 use Rattle.examples_run.proofs.Played.{start}
 
@@ -62,7 +62,7 @@ fits c m lengths f k l h =
     let from : List Deed = drop m h in
     let early : List Deed = drop (suc m) h in
     ltb m (length h) && (begins_on (get_or h m other) c && (eqb (tally most_cores (in_progress early)) k
-    && (eqb (place (fate since c)) (place f) && (allShort most_cores l from since && allRounds (births early) from lengths since))))
+    && (eqb (place (fate since c)) (place f) && (all_short most_cores l from since && all_rounds (births early) from lengths since))))
 
 begun-is : (x : Deed) (c : ℕ) → begins_on x c ≡ true → x ≡ begins c
 begun-is (begins b) c e = rw (eqb-true b c e)
@@ -92,8 +92,8 @@ fitting cores objects xs c m lengths f k l ready e =
     let from : drop m h ≡ begins c ∷ early =
     drop-cons h m other (ltb-true m (length h) (both_left (ltb m (length h)) _ e))
     ∙ ap (λ (x : Deed). x ∷ early) (begun-is (get_or h m other) c (both_left (begins_on (get_or h m other) c) _ e₁)) in
-    let brief = both_left (allShort most_cores l (drop m h) since) _ e₄ in
-    let passed = both_right (allShort most_cores l (drop m h) since) _ e₄ in
+    let brief = both_left (all_short most_cores l (drop m h) since) _ e₄ in
+    let passed = both_right (all_short most_cores l (drop m h) since) _ e₄ in
     record {
       cores = cores;
       objects = objects;
@@ -108,9 +108,9 @@ fitting cores objects xs c m lengths f k l ready e =
       since = since;
       those = sym (take-append-drop m h) ∙ ap (λ (r : List Deed). since ++ r) from;
       k-earlier = eqb-true (tally most_cores (in_progress early)) k (both_left (eqb (tally most_cores (in_progress early)) k) _ e₂);
-      at-most-l = at_most most_cores l (births early) (begins c ∷ early) since (subst (λ (r : List Deed). allShort most_cores l r since ≡ true) from brief);
+      at-most-l = at_most most_cores l (births early) (begins c ∷ early) since (subst (λ (r : List Deed). all_short most_cores l r since ≡ true) from brief);
       rounds =
           all-rounds (births early) (begins c ∷ early) lengths since
-          (subst (λ (r : List Deed). allRounds (births early) r lengths since ≡ true) from passed);
+          (subst (λ (r : List Deed). all_rounds (births early) r lengths since ≡ true) from passed);
       becomes = same_place (fate since c) f (eqb-true (place (fate since c)) (place f) (both_left (eqb (place (fate since c)) (place f)) _ e₃));
     }

@@ -3,10 +3,10 @@
 -- those of TightRuns.antt.
 use Rattle.std.proofs.Common.{◌≡◌, ℕ, suc, ◌+◌, ◌-◌, ◌*◌, ◌<◌, ◌≤◌, Bool, true, false, leb, List, [], ◌∷◌, ◌++◌, length, replicate, sym, refl, ◌∙◌, arith, leb-false, leb-true}
 use Rattle.objset.specs.Objset.{has, collect, some, each, none, is_empty, added, joined, meeting, below}
-use Rattle.std.specs.declared.Answer.TheVariants.{Ready}
-use Rattle.std.specs.Iterator.Adapters.{most_cores, least, running}
-use Rattle.std.specs.Fn.{first}
-use Rattle.std.specs.Life.{struck_by}
+use Rattle.one_core.specs.declared.Answer.TheVariants.{Ready}
+use Rattle.one_core.specs.Parts.{most_cores, least, running}
+use Rattle.one_core.specs.Calls.{first}
+use Rattle.one_core.specs.Life.{struck_by}
 use Rattle.machine.specs.Answers.{kind, values}
 use Rattle.machine.specs.Record.{tally}
 use Rattle.machine.specs.Sound.{in_range, sets_within, owner_listed, idle_clear, zombie_empty, few_jobs, unused_jobs, lacked_cores, lacked_objects, owner_first, tickets_differ, tickets_given, tickets_counted, versions_bounded, smaller_tickets, aborts_bounded, sound}
@@ -15,8 +15,8 @@ use Rattle.machine.specs.Words.{Event, Deed, begins, amounts, deeds, in_progress
 use Rattle.machine.specs.Rounds.{among, is_round, Rounds, Fate, in-progress, committed, given-up, fate, AtMost}
 use Rattle.machine.specs.Claims.{Run}
 use Rattle.machine.proofs.Run.WholeRun.{whole_run}
-use Rattle.machine.proofs.Run.ShortAttempts.{coreBegun, begunBelow, short, allShort}
-use Rattle.machine.proofs.Run.CountedRounds.{allRounds, fewer}
+use Rattle.machine.proofs.Run.ShortAttempts.{core_begun, begun_below, short, all_short}
+use Rattle.machine.proofs.Run.CountedRounds.{all_rounds, fewer}
 use Rattle.machine.proofs.Run.EveryList.{played}
 use Rattle.examples_run.proofs.Played.{calls, start, opening, tight, last}
 use Rattle.examples_run.proofs.AfterRounds.{After, place, fits, fitting}
@@ -79,7 +79,7 @@ Tested k l =
 all_fit : (fits 0 9 five-rounds in-progress 1 1 (deeds (played (start 2 1) [] (calls (opening ++ tight)))) ≡ true)
     × (fits 0 10 (1 ∷ five-rounds) committed 1 1 (deeds (played (start 2 1) [] (calls (opening ++ tight ++ last)))) ≡ true)
     × Tested 1 2 × Tested 2 1 × Tested 2 2
-unfolding five-rounds opening tight last on again opened served all_served calls_for rounds_for total played place fits coreBegun begunBelow short allShort allRounds amounts deeds kind values in_progress births born any touched wrote crosses attempt among is_round fate rule setup first unless unless_lent released release begun begin set_back_told access_refusal value_read valued read written write contender blocked least_by struck_by cleared changed through commit_refusal commit ended give_up finished finish tally least running in_range sets_within owner_listed idle_clear zombie_empty few_jobs unused_jobs lacked_cores lacked_objects owner_first tickets_differ tickets_given tickets_counted versions_bounded smaller_tickets aborts_bounded sound has collect some each none is_empty added joined meeting below
+unfolding five-rounds opening tight last on again opened served all_served calls_for rounds_for total played place fits core_begun begun_below short all_short all_rounds amounts deeds kind values in_progress births born any touched wrote crosses attempt among is_round fate rule setup first unless unless_lent released release begun begin set_back_told access_refusal value_read valued read written write contender blocked least_by struck_by cleared changed through commit_refusal commit ended give_up finished finish tally least running in_range sets_within owner_listed idle_clear zombie_empty few_jobs unused_jobs lacked_cores lacked_objects owner_first tickets_differ tickets_given tickets_counted versions_bounded smaller_tickets aborts_bounded sound has collect some each none is_empty added joined meeting below
 all_fit = (refl, refl, refl, refl, refl)
 
 pub bound-is-exact : Exact 1 1

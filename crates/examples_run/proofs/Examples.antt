@@ -3,15 +3,15 @@
 use Rattle.std.proofs.Common.{◌≡◌, ℕ, zero, suc, ◌+◌, ◌*◌, Bool, true, ◌&&◌, List, [], ◌∷◌, ◌++◌, replicate, refl, ap₂}
 use Rattle.objset.proofs.Laws.{both_left, both_right}
 use Rattle.objset.specs.Objset.{has, collect, some, each, none, is_empty, added, joined, meeting, below}
-use Rattle.std.specs.declared.Answer.{Answer}
-use Rattle.std.specs.declared.Answer.TheVariants.{Ready, Running, Queued, Begun, Value, Written, Waits, Committed, SetBack, Ended, Finished, Refused}
+use Rattle.one_core.specs.declared.Answer.{Answer}
+use Rattle.one_core.specs.declared.Answer.TheVariants.{Ready, Running, Queued, Begun, Value, Written, Waits, Committed, SetBack, Ended, Finished, Refused}
 use Rattle.machine.specs.Record.{tally}
-use Rattle.std.specs.Iterator.Adapters.{least, running}
+use Rattle.one_core.specs.Parts.{least, running}
 use Rattle.machine.specs.Sound.{in_range, sets_within, owner_listed, idle_clear, zombie_empty, few_jobs, unused_jobs, lacked_cores, lacked_objects, owner_first, tickets_differ, tickets_given, tickets_counted, versions_bounded, smaller_tickets, aborts_bounded, sound}
 use Rattle.machine.specs.Answers.{kind, values, same_list, same_answer}
 use Rattle.machine.specs.Rule.{World, Result, unless, unless_lent, setup, released, release, begun, begin, set_back_told, access_refusal, value_read, valued, read, written, write, contender, blocked, least_by, cleared, changed, through, commit_refusal, commit, ended, give_up, finished, finish, rule, Call, Release, Begin, Read, Write, Commit, GiveUp, Finish}
-use Rattle.std.specs.Fn.{first}
-use Rattle.std.specs.Life.{struck_by}
+use Rattle.one_core.specs.Calls.{first}
+use Rattle.one_core.specs.Life.{struck_by}
 
 -- a call and the answer that document 01 says it gets
 pub record Expected : Type 0 where

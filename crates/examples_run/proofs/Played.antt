@@ -2,10 +2,10 @@
 -- document 01, and a tight run, in which a transaction stays in progress as long as the claim lets it.
 use Rattle.std.proofs.Common.{◌≡◌, ℕ, ◌*◌, List, [], ◌∷◌, ◌++◌, map, length, drop, replicate, refl}
 use Rattle.objset.specs.Objset.{has, collect, some, each, none, is_empty, added, joined, meeting, below}
-use Rattle.std.specs.declared.Answer.TheVariants.{Ready, Running, Begun, Value, Written, Waits, Committed, SetBack, Ended, Refused}
-use Rattle.std.specs.Iterator.Adapters.{least, running}
-use Rattle.std.specs.Fn.{first}
-use Rattle.std.specs.Life.{struck_by}
+use Rattle.one_core.specs.declared.Answer.TheVariants.{Ready, Running, Begun, Value, Written, Waits, Committed, SetBack, Ended, Refused}
+use Rattle.one_core.specs.Parts.{least, running}
+use Rattle.one_core.specs.Calls.{first}
+use Rattle.one_core.specs.Life.{struck_by}
 use Rattle.machine.specs.Answers.{kind, values}
 use Rattle.machine.specs.Record.{tally}
 use Rattle.machine.specs.Sound.{in_range, sets_within, owner_listed, idle_clear, zombie_empty, few_jobs, unused_jobs, lacked_cores, lacked_objects, owner_first, tickets_differ, tickets_given, tickets_counted, versions_bounded, smaller_tickets, aborts_bounded, sound}

@@ -3,9 +3,9 @@
 use Rattle.std.proofs.Common.{◌≡◌, ℕ, zero, suc, ◌-◌, Bool, true, false, not, ◌&&◌, ◌||◌, eqb, List, [], ◌∷◌, ◌++◌, length, replicate, refl}
 use Rattle.objset.specs.Objset.{has, collect, some, each, none, is_empty, below}
 use Rattle.machine.specs.declared.Machine.{Machine}
-use Rattle.std.specs.declared.Core.{Core}
-use Rattle.std.specs.declared.Job.{Job}
-use Rattle.std.specs.Iterator.Adapters.{no_job, idle, blank_core}
+use Rattle.one_core.specs.declared.Core.{Core}
+use Rattle.one_core.specs.declared.Job.{Job}
+use Rattle.one_core.specs.Parts.{no_job, idle, blank_core}
 use Rattle.machine.specs.Record.{tally}
 use Rattle.machine.specs.Sound.{in_range, sets_within, owner_listed, idle_clear, zombie_empty, few_jobs, unused_jobs, lacked_cores, lacked_objects, owner_first, tickets_differ, tickets_given, tickets_counted, versions_bounded, smaller_tickets, aborts_bounded, sound}
 

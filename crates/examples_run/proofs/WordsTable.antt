@@ -3,7 +3,7 @@
 -- What each word says stands there as it is worked by hand from document 01; each table is one computed test.
 use Rattle.std.proofs.Common.{◌≡◌, ℕ, zero, suc, ◌-◌, Bool, true, false, cond, ◌&&◌, List, [], ◌∷◌, ◌++◌, map, length, take, drop, refl}
 use Rattle.objset.specs.Objset.{some, each}
-use Rattle.std.specs.Iterator.Adapters.{most_cores}
+use Rattle.one_core.specs.Parts.{most_cores}
 use Rattle.machine.specs.Answers.{kind, values}
 use Rattle.machine.specs.Record.{tally}
 use Rattle.machine.specs.Words.{Deed, begins, reads, writes, waits, commits, told, gives, other, amounts, deeds, in_progress, births, born, ahead, any, touched, wrote, crosses, attempt, strikes, conflict, struck, set_backs, wrote_nothing}

@@ -2,8 +2,8 @@
 use Rattle.std.specs.Prelude.{ℕ, ◌+◌, cond, List, [], ◌++◌, length, take, drop, nat_le, nat_lt}
 use Rattle.decimal.specs.Bytes.{ascii}
 use Rattle.decimal.specs.Spelling.{spelling}
-use Rattle.std.specs.declared.Answer.{Answer}
-use Rattle.std.specs.declared.Answer.TheVariants.{Ready, Running, Queued, Begun, Value, Written, Waits, Committed, SetBack, Ended, Finished, Refused}
+use Rattle.one_core.specs.declared.Answer.{Answer}
+use Rattle.one_core.specs.declared.Answer.TheVariants.{Ready, Running, Queued, Begun, Value, Written, Waits, Committed, SetBack, Ended, Finished, Refused}
 use Rattle.listing.specs.declared.Field.{Field}
 use Rattle.listing.specs.declared.Field.TheVariants.{Number, Dash}
 

@@ -3,7 +3,7 @@
 use Rattle.std.proofs.Common.{◌≡◌, ℕ, List, ap}
 use Rattle.machine.specs.declared.Machine.{Machine}
 use Rattle.machine.specs.declared.Outcome.{Outcome}
-use Rattle.std.specs.declared.Answer.{Answer}
+use Rattle.one_core.specs.declared.Answer.{Answer}
 use Rattle.machine.specs.Rule.{World, Result, lent, left, release, begin, read, write, commit, give_up, finish, rule, Call, Release, Begin, Read, Write, Commit, GiveUp, Finish}
 use Rattle.machine.specs.Follows.{Follows}
 

@@ -3,12 +3,12 @@ use Rattle.std.proofs.Common.{◌≡◌, ℕ, ◌+◌, ◌<◌, ◌≤◌, Bool,
 use lib.ListN.{length-replicate, get_or-replicate}
 use Rattle.objset.specs.Objset.{each}
 use Rattle.objset.proofs.Laws.{each-one, one_each, empty-none, none-empty}
-use Rattle.std.specs.declared.Core.{Core}
-use Rattle.std.specs.Iterator.Adapters.{no_job, no_core, blank_core}
-use Rattle.std.specs.Formed.{Formed-core}
-use Rattle.std.specs.Tidy.{blank_on}
-use Rattle.std.proofs.Tidy.{blank-core}
-use Rattle.std.proofs.TestLaws.{both, if-true, same_test}
+use Rattle.one_core.specs.declared.Core.{Core}
+use Rattle.one_core.specs.Parts.{no_job, no_core, blank_core}
+use Rattle.one_core.specs.Formed.{Formed-core}
+use Rattle.one_core.specs.Tidy.{blank_on}
+use Rattle.one_core.proofs.Tidy.{blank-core}
+use Rattle.one_core.proofs.TestLaws.{both, if-true, same_test}
 use Rattle.machine.specs.declared.Machine.{Machine}
 use Rattle.machine.specs.Record.{core_at, active_at, tally, blank}
 use Rattle.machine.specs.Inside.{Formed}

@@ -1,6 +1,6 @@
 -- The conditions of refusals, and a call that is lent the tables: refused where a condition holds, accepted where none does.
 use Rattle.std.proofs.Common.{◌≡◌, ℕ, suc, ◌<◌, ◌≤◌, true, false, not, ◌&&◌, sym, ap, ap₂, le-ltb, lt-ltb, eq-eqb}
-use Rattle.std.specs.declared.Answer.TheVariants.{Refused}
+use Rattle.one_core.specs.declared.Answer.TheVariants.{Refused}
 use Rattle.machine.specs.declared.Machine.{Machine}
 use Rattle.machine.specs.Sound.{sound}
 use Rattle.machine.specs.Inside.{SoundWorld}

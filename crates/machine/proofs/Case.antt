@@ -5,18 +5,18 @@ use borrow.Author.Tests.{eqb-false, not-true, not-false}
 use Rattle.objset.specs.Objset.{meeting}
 use Rattle.objset.proofs.Laws.{both_left, both_right, one-some, one-filled, meeting-one}
 use Rattle.machine.specs.declared.Machine.{Machine}
-use Rattle.std.specs.declared.Core.{Core}
-use Rattle.std.specs.declared.Answer.{Answer}
-use Rattle.std.specs.declared.Answer.TheVariants.{Ready, Begun, Written, Waits, SetBack, Ended, Refused}
+use Rattle.one_core.specs.declared.Core.{Core}
+use Rattle.one_core.specs.declared.Answer.{Answer}
+use Rattle.one_core.specs.declared.Answer.TheVariants.{Ready, Begun, Written, Waits, SetBack, Ended, Refused}
 use Rattle.machine.specs.declared.Outcome.{Outcome}
 use Rattle.machine.specs.Record.{core_at, active_at, sizes_in_range, blank}
-use Rattle.std.specs.Iterator.Adapters.{data_set}
+use Rattle.one_core.specs.Parts.{data_set}
 use Rattle.machine.specs.Sound.{sound}
 use Rattle.machine.specs.Answers.{kind}
 use Rattle.machine.specs.Follows.{Follows}
 use Rattle.machine.specs.Rule.{World, Result, lent, with_machine, unless, unless_lent, sizes_out_of_range, misfit, new_world, setup, unsound, wrong_tables, no_such_core, no_such_object, full_list, jobless, tickets_spent, released, release, begun, begin, set_back_told, access_refusal, valued, read, written, write, contender, blocked, must_wait, first_ahead, through, waiting, commit_refusal, commit, ended, give_up, finished, finish, rule, Call, Release, Begin, Read, Write, Commit, GiveUp, Finish}
-use Rattle.std.specs.Fn.{first}
-use Rattle.std.specs.Life.{is_read_only, conflicting, is_struck}
+use Rattle.one_core.specs.Calls.{first}
+use Rattle.one_core.specs.Life.{is_read_only, conflicting, is_struck}
 use Rattle.machine.proofs.Refusals.{passed}
 use Rattle.machine.proofs.Least.{Least, least}
 

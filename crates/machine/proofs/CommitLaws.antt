@@ -3,14 +3,14 @@ use Rattle.std.proofs.Common.{◌≡◌, ℕ, ◌+◌, ◌*◌, ◌<◌, ◌≤�
 use lib.Seq.{set-get_or}
 use Rattle.objset.specs.Objset.{has, none}
 use Rattle.objset.proofs.Laws.{both_right, has-none, none-empty}
-use Rattle.std.specs.declared.Core.{Core}
-use Rattle.std.specs.declared.Answer.{Answer}
-use Rattle.std.specs.declared.Answer.TheVariants.{Refused, Waits, SetBack}
-use Rattle.std.specs.declared.calls.Settled.{Settled}
-use Rattle.std.specs.Iterator.Adapters.{no_core}
-use Rattle.std.specs.Life.{unmarked, over, is_read_only}
-use Rattle.std.specs.Fn.{stays, passes, commit_on}
-use Rattle.std.proofs.CallLaws.{skips, hits, none-holds, settled-either}
+use Rattle.one_core.specs.declared.Core.{Core}
+use Rattle.one_core.specs.declared.Answer.{Answer}
+use Rattle.one_core.specs.declared.Answer.TheVariants.{Refused, Waits, SetBack}
+use Rattle.one_core.specs.declared.calls.Settled.{Settled}
+use Rattle.one_core.specs.Parts.{no_core}
+use Rattle.one_core.specs.Life.{unmarked, over, is_read_only}
+use Rattle.one_core.specs.Calls.{stays, passes, commit_on}
+use Rattle.one_core.proofs.CallLaws.{skips, hits, none-holds, settled-either}
 use Rattle.machine.specs.declared.Machine.{Machine}
 use Rattle.machine.specs.declared.inside.calls.Found.{Found}
 use Rattle.machine.specs.Record.{core_at, put_core}

@@ -2,17 +2,17 @@
 use Rattle.std.proofs.Common.{◌≡◌, ℕ, zero, suc, ◌+◌, ◌*◌, ◌<◌, ◌≤◌, Bool, true, false, cond, ◌&&◌, ltb, List, [], ◌∷◌, get_or, set, sym, refl, ap, ◌∙◌, subst, ap₂, mul-le-mul, arith, ltb-false, ltb-true, lt-ltb}
 use mathlib.Core.Bool.{and-false}
 use lib.Seq.{set-get_or}
-use Rattle.std.specs.declared.Core.{Core}
-use Rattle.std.specs.declared.Answer.{Answer}
-use Rattle.std.specs.declared.Answer.TheVariants.{Refused}
-use Rattle.std.specs.declared.calls.Act.{Act}
-use Rattle.std.specs.declared.calls.Act.TheVariants as Act
-use Rattle.std.specs.declared.calls.Seen.{Seen}
-use Rattle.std.specs.declared.calls.Acted.{Acted}
-use Rattle.std.specs.Fn as Core
-use Rattle.std.specs.Fn.{first, object_of, Fits, Settles, taken, act_on, release_on, begin_on, read_on, write_on, give_up_on, finish_on}
-use Rattle.std.proofs.CallLaws.{skips, hits}
-use Rattle.std.proofs.Tidy.{tidy-settles}
+use Rattle.one_core.specs.declared.Core.{Core}
+use Rattle.one_core.specs.declared.Answer.{Answer}
+use Rattle.one_core.specs.declared.Answer.TheVariants.{Refused}
+use Rattle.one_core.specs.declared.calls.Act.{Act}
+use Rattle.one_core.specs.declared.calls.Act.TheVariants as Act
+use Rattle.one_core.specs.declared.calls.Seen.{Seen}
+use Rattle.one_core.specs.declared.calls.Acted.{Acted}
+use Rattle.one_core.specs.Calls as Core
+use Rattle.one_core.specs.Calls.{first, object_of, Fits, Settles, taken, act_on, release_on, begin_on, read_on, write_on, give_up_on, finish_on}
+use Rattle.one_core.proofs.CallLaws.{skips, hits}
+use Rattle.one_core.proofs.Tidy.{tidy-settles}
 use Rattle.machine.specs.declared.Machine.{Machine}
 use Rattle.machine.specs.declared.Outcome.{Outcome}
 use Rattle.machine.specs.declared.inside.calls.Found.{Found}

@@ -3,10 +3,10 @@ use Rattle.std.proofs.Common.{◌≡◌, ℕ, zero, suc, ◌+◌, ◌<◌, ◌�
 use mathlib.Core.Bool.{and-false}
 use Rattle.objset.specs.Objset.{has, none, is_empty, meeting}
 use Rattle.objset.proofs.Laws.{has-none, empty-meeting}
-use Rattle.std.specs.declared.Core.{Core}
-use Rattle.std.specs.Iterator.Adapters.{no_core, data_set}
-use Rattle.std.specs.Life.{is_struck, aborted, struck_by, over}
-use Rattle.std.proofs.LifeLaws.{struck-hit, struck-missed, struck-idle}
+use Rattle.one_core.specs.declared.Core.{Core}
+use Rattle.one_core.specs.Parts.{no_core, data_set}
+use Rattle.one_core.specs.Life.{is_struck, aborted, struck_by, over}
+use Rattle.one_core.proofs.LifeLaws.{struck-hit, struck-missed, struck-idle}
 use Rattle.machine.specs.Rule.{cleared, changed}
 use Rattle.machine.specs.OneCore.{struck_all}
 use Rattle.machine.proofs.Front.{Stands, stands-next, stands-stored, stands-kept, stands-all}

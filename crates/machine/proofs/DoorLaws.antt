@@ -1,14 +1,14 @@
 -- The refusals of the public calls that the inside functions do not know: 2 and 3, and setup's.
 use Rattle.std.proofs.Common.{◌≡◌, ℕ, ◌*◌, Bool, true, false, not, ◌&&◌, eqb, List, length, replicate, ap, ◌∙◌, ap₂, eqb-true}
 use Rattle.objset.proofs.Laws.{both_left, both_right}
-use Rattle.std.specs.declared.Answer.TheVariants.{Refused, Ready}
+use Rattle.one_core.specs.declared.Answer.TheVariants.{Refused, Ready}
 use Rattle.machine.specs.Record.{blank, machine_of, sizes_in_range}
 use Rattle.machine.specs.Sound.{sound}
 use Rattle.machine.specs.Inside.{SoundWorld}
 use Rattle.machine.specs.Rule.{World, lent, setup, rule, Call}
 use Rattle.machine.specs.Refusals.{at, refusals}
 use Rattle.machine.proofs.Refusals.{refused-with}
-use Rattle.std.proofs.CallLaws.{skips, hits, none-holds}
+use Rattle.one_core.proofs.CallLaws.{skips, hits, none-holds}
 use Rattle.machine.proofs.CallLaws.{is_sound}
 use Rattle.machine.proofs.CallLaws.{refused-lent, accepted-lent}
 

@@ -3,9 +3,9 @@
 use Rattle.std.proofs.Common.{◌≡◌, ℕ, zero, suc, ◌+◌, ◌-◌, ◌<◌, Bool, true, false, cond, eqb, List, [], ◌∷◌, length, get_or, take, drop, set, sym, refl, ap, ◌∙◌, subst, arith, length-drop, get_or-drop, take_all, get_or-set_other, get_or-set_same, eqb-true}
 use borrow.Author.Tests.{eqb-false}
 use Rattle.objset.specs.Objset.{has}
-use Rattle.std.specs.declared.Core.{Core}
-use Rattle.std.specs.Iterator.Adapters.{no_core}
-use Rattle.std.specs.Life.{struck_by, over}
+use Rattle.one_core.specs.declared.Core.{Core}
+use Rattle.one_core.specs.Parts.{no_core}
+use Rattle.one_core.specs.Life.{struck_by, over}
 use Rattle.machine.specs.Rule.{cleared, changed}
 
 -- what holds of core c, and of core e where that is another, holds of core e

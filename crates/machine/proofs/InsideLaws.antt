@@ -3,7 +3,7 @@
 use Rattle.std.proofs.Common.{◌≡◌, ℕ, List, sym, ap, ◌∙◌, subst}
 use Rattle.machine.specs.declared.Machine.{Machine}
 use Rattle.machine.specs.declared.Outcome.{Outcome}
-use Rattle.std.specs.declared.Answer.TheVariants.{Ready}
+use Rattle.one_core.specs.declared.Answer.TheVariants.{Ready}
 use Rattle.machine.specs.Inside.{WellFormedWorld}
 use Rattle.machine.specs.Rule.{World, Result, lent, left, setup, commit}
 use Rattle.machine.proofs.Case.{case-of}

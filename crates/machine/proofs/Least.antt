@@ -3,9 +3,9 @@
 use Rattle.std.proofs.Common.{◌≡◌, ℕ, zero, suc, ◌<◌, ◌≤◌, Bool, true, false, cond, not, ◌&&◌, ◌||◌, ltb, List, get_or, sym, refl, ap, ◌∙◌, subst, ap₂, true≢false, arith, ltb-false, ltb-true, lt-ltb}
 use Rattle.objset.specs.Objset.{some}
 use Rattle.objset.proofs.Laws.{both_left, both_right, one-some}
-use Rattle.std.specs.declared.Core.{Core}
-use Rattle.std.specs.Iterator.Adapters.{no_core}
-use Rattle.std.specs.Life.{is_read_only, conflicting, conflicts_below, holds_back}
+use Rattle.one_core.specs.declared.Core.{Core}
+use Rattle.one_core.specs.Parts.{no_core}
+use Rattle.one_core.specs.Life.{is_read_only, conflicting, conflicts_below, holds_back}
 use Rattle.machine.specs.Rule.{least_by}
 use Rattle.machine.specs.OneCore.{first_holding}
 

@@ -4,15 +4,15 @@ use Rattle.std.proofs.Common.{◌≡◌, ℕ, zero, suc, ◌<◌, ◌≤◌, Boo
 use mathlib.Core.Bool.{and-false}
 use Rattle.objset.proofs.Laws.{both_left, both_right}
 use Rattle.machine.specs.declared.Machine.{Machine}
-use Rattle.std.specs.declared.Answer.{Answer}
-use Rattle.std.specs.declared.Answer.TheVariants.{Running, Queued, Refused}
+use Rattle.one_core.specs.declared.Answer.{Answer}
+use Rattle.one_core.specs.declared.Answer.TheVariants.{Running, Queued, Refused}
 use Rattle.machine.specs.declared.Outcome.{Outcome}
 use Rattle.machine.specs.Record.{core_at, blank}
-use Rattle.std.specs.Iterator.Adapters.{running}
+use Rattle.one_core.specs.Parts.{running}
 use Rattle.machine.specs.Answers.{refusal_number}
 use Rattle.machine.specs.Rule.{commit_refusal, World, Result, lent, unlent, unless, unless_lent, setup, released, release, begun, begin, set_back_told, access_refusal, valued, read, written, write, must_wait, through, waiting, commit, ended, give_up, finished, finish, rule, Call, Release, Begin, Read, Write, Commit, GiveUp, Finish}
-use Rattle.std.specs.Fn.{first}
-use Rattle.std.specs.Life.{with_job}
+use Rattle.one_core.specs.Calls.{first}
+use Rattle.one_core.specs.Life.{with_job}
 use Rattle.machine.specs.Refusals.{refusals, setup_refusals, applies, Smallest}
 
 -- ---- the first condition that holds has the smallest number

@@ -5,13 +5,13 @@ use Rattle.objset.specs.Objset.{each}
 use Rattle.objset.proofs.Laws.{one_each}
 use Rattle.machine.specs.declared.Machine.{Machine}
 use Rattle.machine.specs.Record.{core_at, active_at, tally}
-use Rattle.std.specs.Tidy.{◌⇒◌, tidy, blank_on}
+use Rattle.one_core.specs.Tidy.{◌⇒◌, tidy, blank_on}
 use Rattle.machine.specs.Sound.{in_range, sets_within, owner_listed, idle_clear, zombie_empty, few_jobs, unused_jobs, owner_first}
 use Rattle.machine.specs.Sound.{lacked_at, lacked_cores, version_at, versions_bounded, lacked_object_at, lacked_objects}
 use Rattle.machine.specs.Sound.{differ_at, tickets_differ, given_at, tickets_given, smaller_at, smaller_tickets, aborts_at, aborts_bounded}
 use Rattle.machine.specs.Sound.{tickets_counted, sound, cards_sound, cores_tidy, turns_kept, cores_sound, turn_kept}
-use Rattle.std.proofs.Tidy.{blank-tidy}
-use Rattle.std.proofs.TestLaws.{and-true, same_test, both, each-fails, each_all, Each-both, gather}
+use Rattle.one_core.proofs.Tidy.{blank-tidy}
+use Rattle.one_core.proofs.TestLaws.{and-true, same_test, both, each-fails, each_all, each_both, gather}
 use Rattle.machine.proofs.Sound.Passed.{passed, passed-all}
 
 -- ---- all cores
@@ -74,7 +74,7 @@ abbrev pub kept_at : Machine → ℕ → Bool
 kept_at m c = tidy_at m c && turn_at m c
 
 cores-kept : (m : Machine) → each 16 (kept_at m) ≡ (cores_tidy m && turns_kept m)
-cores-kept m = Each-both 16 (tidy_at m) (turn_at m) ∙ ap₂ ◌&&◌ (cores-tidy m) (turns-kept m)
+cores-kept m = each_both 16 (tidy_at m) (turn_at m) ∙ ap₂ ◌&&◌ (cores-tidy m) (turns-kept m)
 
 -- a core that breaks them
 pub kept-fails : (m : Machine) (c : ℕ) → c < 16 → {a b : Bool} → tidy_at m c ≡ a → turn_at m c ≡ b → (a && b) ≡ false → false ≡ cores_sound m

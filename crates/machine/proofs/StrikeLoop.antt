@@ -1,9 +1,9 @@
 -- Where the loop of a commit that strikes one core after another stands, over plain variables: for whoever commits in place.
 use Rattle.std.proofs.Common.{◌≡◌, ℕ, ◌+◌, ◌<◌, ◌≤◌, Bool, true, false, cond, List, length, get_or, set, sym, ap, ◌∙◌, subst, arith}
 use Rattle.objset.specs.Objset.{is_empty}
-use Rattle.std.specs.declared.Core.{Core}
-use Rattle.std.specs.Iterator.Adapters.{no_core}
-use Rattle.std.specs.Life.{is_struck, aborted}
+use Rattle.one_core.specs.declared.Core.{Core}
+use Rattle.one_core.specs.Parts.{no_core}
+use Rattle.one_core.specs.Life.{is_struck, aborted}
 use Rattle.machine.specs.declared.Machine.{Machine}
 use Rattle.machine.specs.OneCore.{struck_all}
 use Rattle.machine.proofs.CoreLists.{strikes-next, strikes-hit, strikes-missed, strikes-done}

@@ -2,7 +2,7 @@
 -- values.
 use Rattle.std.proofs.Common.{◌≡◌, ℕ, Bool, List, sym, ap, subst}
 use Rattle.machine.specs.declared.Outcome.{Outcome}
-use Rattle.std.specs.declared.Answer.{Answer}
+use Rattle.one_core.specs.declared.Answer.{Answer}
 use Rattle.machine.specs.Answers.{refusal_number, values}
 use Rattle.machine.specs.Refusals.{Smallest, Tabled}
 use Rattle.machine.specs.Rule.{Result}

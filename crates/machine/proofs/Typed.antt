@@ -7,9 +7,9 @@ use denote.Shadow.{shadow}
 use denote.Laws.{Is}
 use denote.Array.{each}
 use denote.Struct.Field.{Field}
-use Rattle.std.specs.declared.Core.{Core}
-use Rattle.std.specs.Iterator.Adapters.{no_core}
-use Rattle.std.specs.Formed.{Formed-core}
+use Rattle.one_core.specs.declared.Core.{Core}
+use Rattle.one_core.specs.Parts.{no_core}
+use Rattle.one_core.specs.Formed.{Formed-core}
 use Rattle.std.specs.contracts.Core as CoreType
 use Rattle.machine.specs.declared.Machine.{Machine}
 use Rattle.machine.specs.Inside.{Formed}

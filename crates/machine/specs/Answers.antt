@@ -1,8 +1,8 @@
 -- Document 01's number and values for each case of the answer enum, and the test that two answers are the same. The document
 -- numbers refusals only; so that answers can be compared, `kind` gives each case its place in the enum.
 use Rattle.std.specs.Prelude.{ℕ, Bool, true, false, ◌&&◌, List, [], ◌∷◌, ◌==◌}
-use Rattle.std.specs.declared.Answer.{Answer}
-use Rattle.std.specs.declared.Answer.TheVariants.{Ready, Running, Queued, Begun, Value, Written, Waits, Committed, SetBack, Ended, Finished, Refused}
+use Rattle.one_core.specs.declared.Answer.{Answer}
+use Rattle.one_core.specs.declared.Answer.TheVariants.{Ready, Running, Queued, Begun, Value, Written, Waits, Committed, SetBack, Ended, Finished, Refused}
 
 -- the number of a refusal; 0 for an answer that is none
 unfoldable pub refusal_number : Answer → ℕ

@@ -2,15 +2,15 @@
 -- it from top to bottom; its words are in Words.antt, Rounds.antt and Serial.antt, the rules in Rule.antt, what a call's promise
 -- says in Follows.antt.
 use Rattle.std.specs.Prelude.{◌≡◌, ℕ, suc, ◌+◌, ◌*◌, ◌<◌, ◌≤◌, true, false, List, [], ◌∷◌, ◌++◌, ◌≢◌}
-use Rattle.std.specs.declared.Answer.{Answer}
-use Rattle.std.specs.declared.Answer.TheVariants.{Value, Committed}
+use Rattle.one_core.specs.declared.Answer.{Answer}
+use Rattle.one_core.specs.declared.Answer.TheVariants.{Value, Committed}
 use Rattle.machine.specs.Record.{tally}
 use Rattle.machine.specs.Rule.{World, rule, Call, Read, Commit}
 use Rattle.machine.specs.Follows.{Follows}
 use Rattle.machine.specs.Words.{Event, Deed, begins, waits, commits, told, deeds, in_progress, births, born, ahead, wrote_nothing, attempt, strikes, conflict, struck, set_backs}
 use Rattle.machine.specs.Rounds.{Rounds, fate, committed, given-up, AtMost}
 use Rattle.machine.specs.Serial.{replays, serial, stood, settled, version}
-use Rattle.std.specs.Iterator.Adapters.{most_cores}
+use Rattle.one_core.specs.Parts.{most_cores}
 
 -- A run from the world w₀: each call gets the record that the last one returned and is lent the tables as the calls before left
 -- them, and keeps its promise, which is all that is known of it. Newest first.

@@ -1,6 +1,6 @@
 -- What the promise of a call after setup says of it.
 use Rattle.std.specs.Prelude.{◌≡◌}
-use Rattle.std.specs.declared.Answer.{Answer}
+use Rattle.one_core.specs.declared.Answer.{Answer}
 use Rattle.machine.specs.Rule.{World, rule, Call}
 
 -- the answer and the next world are the rule's

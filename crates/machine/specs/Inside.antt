@@ -2,10 +2,10 @@
 use Rattle.std.specs.Prelude.{◌≡◌, ℕ, ◌*◌, ◌<◌, ◌≤◌, true, length}
 use Rattle.machine.specs.declared.Machine.{Machine}
 use Rattle.machine.specs.Record.{core_at}
-use Rattle.std.specs.Formed.{Formed-core}
+use Rattle.one_core.specs.Formed.{Formed-core}
 use Rattle.machine.specs.Sound.{sound}
 use Rattle.machine.specs.Rule.{World}
-use Rattle.std.specs.Iterator.Adapters.{most_cores}
+use Rattle.one_core.specs.Parts.{most_cores}
 use Rattle.objset.specs.Objset.{most_objects}
 
 -- the record is sound and both tables have their length

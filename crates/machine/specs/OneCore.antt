@@ -1,14 +1,14 @@
 -- A call takes one core out of the record and puts it back: where it finds it, what it sees beside it, and what is put back.
 use Rattle.std.specs.Prelude.{ℕ, ◌+◌, ◌*◌, Bool, cond, not, ◌&&◌, List, [], ◌∷◌, get_or, set, replicate, nat_lt, slice_index, slice_index_or, slice_set}
 use Rattle.objset.specs.Objset.{some}
-use Rattle.std.specs.declared.Core.{Core}
-use Rattle.std.specs.declared.calls.Act.{Act}
-use Rattle.std.specs.declared.calls.Act.TheVariants as Act
-use Rattle.std.specs.declared.calls.Seen.{Seen}
-use Rattle.std.specs.declared.calls.Acted.{Acted}
-use Rattle.std.specs.declared.calls.Settled.{Settled}
-use Rattle.std.specs.Iterator.Adapters.{most_cores, no_core}
-use Rattle.std.specs.Life.{is_read_only, holds_back, struck_by}
+use Rattle.one_core.specs.declared.Core.{Core}
+use Rattle.one_core.specs.declared.calls.Act.{Act}
+use Rattle.one_core.specs.declared.calls.Act.TheVariants as Act
+use Rattle.one_core.specs.declared.calls.Seen.{Seen}
+use Rattle.one_core.specs.declared.calls.Acted.{Acted}
+use Rattle.one_core.specs.declared.calls.Settled.{Settled}
+use Rattle.one_core.specs.Parts.{most_cores, no_core}
+use Rattle.one_core.specs.Life.{is_read_only, holds_back, struck_by}
 use Rattle.machine.specs.declared.Machine.{Machine}
 use Rattle.machine.specs.declared.Outcome.{Outcome}
 use Rattle.machine.specs.declared.inside.calls.Found.{Found}

@@ -1,8 +1,8 @@
 -- The record's parts: a core, its sizes, what is blank, and one core put in another's place.
 use Rattle.std.specs.Prelude.{ℕ, zero, suc, ◌+◌, Bool, cond, ◌&&◌, replicate, nat_le, nat_lt, slice_index_or, slice_set}
 use Rattle.machine.specs.declared.Machine.{Machine}
-use Rattle.std.specs.declared.Core.{Core}
-use Rattle.std.specs.Iterator.Adapters.{most_cores, no_core, blank_core}
+use Rattle.one_core.specs.declared.Core.{Core}
+use Rattle.one_core.specs.Parts.{most_cores, no_core, blank_core}
 use Rattle.objset.specs.Objset.{most_objects}
 
 abbrev pub core_at : Machine → ℕ → Core

@@ -1,7 +1,7 @@
 -- What a refused call gives (document 01): the table of refusals, and 'the smallest number that applies'.
 use Rattle.std.specs.Prelude.{◌≡◌, ℕ, ◌<◌, ◌≤◌, Bool, true, false, not, ◌&&◌, ◌||◌, List, [], ◌∷◌, ◌==◌}
 use Rattle.machine.specs.declared.Machine.{Machine}
-use Rattle.std.specs.declared.Answer.{Answer}
+use Rattle.one_core.specs.declared.Answer.{Answer}
 use Rattle.machine.specs.Answers.{refusal_number, values}
 use Rattle.machine.specs.Record.{active_at}
 use Rattle.machine.specs.Rule.{World, sizes_out_of_range, misfit, unsound, wrong_tables, no_such_core, no_such_object, full_list, jobless, tickets_spent, setup, rule, Call, Release, Begin, Read, Write, Commit, GiveUp, Finish, core_of}

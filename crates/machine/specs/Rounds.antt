@@ -1,9 +1,9 @@
 -- Rounds, and what becomes of a transaction (document 01, the words of demand 3).
 use Rattle.std.specs.Prelude.{◌≡◌, ℕ, suc, ◌≤◌, Bool, true, cond, ◌&&◌, List, [], ◌∷◌, ◌++◌, length, ◌==◌, nat_le}
 use Rattle.objset.specs.Objset.{each}
-use Rattle.std.specs.Tidy.{◌⇒◌}
+use Rattle.one_core.specs.Tidy.{◌⇒◌}
 use Rattle.machine.specs.Words.{Deed, begins, reads, writes, waits, commits, told, gives, other, acts_on, in_progress, born, any, attempt}
-use Rattle.std.specs.Iterator.Adapters.{most_cores}
+use Rattle.one_core.specs.Parts.{most_cores}
 
 -- core b has T or one of those k in progress: the one begun as number t or before, T being number t
 unfoldable pub among : ℕ → List Deed → ℕ → Bool

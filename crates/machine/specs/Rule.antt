@@ -3,15 +3,15 @@
 use Rattle.std.specs.Prelude.{ℕ, zero, suc, ◌+◌, ◌*◌, Bool, cond, not, ◌&&◌, List, [], ◌∷◌, length, set, replicate, ◌==◌, nat_lt, slice_index, slice_set}
 use Rattle.objset.specs.Objset.{has, some}
 use Rattle.machine.specs.declared.Machine.{Machine}
-use Rattle.std.specs.declared.Core.{Core}
-use Rattle.std.specs.declared.Job.{Job}
-use Rattle.std.specs.declared.Answer.{Answer}
-use Rattle.std.specs.declared.Answer.TheVariants.{Ready, Running, Queued, Begun, Value, Written, Waits, Committed, SetBack, Ended, Finished, Refused}
+use Rattle.one_core.specs.declared.Core.{Core}
+use Rattle.one_core.specs.declared.Job.{Job}
+use Rattle.one_core.specs.declared.Answer.{Answer}
+use Rattle.one_core.specs.declared.Answer.TheVariants.{Ready, Running, Queued, Begun, Value, Written, Waits, Committed, SetBack, Ended, Finished, Refused}
 use Rattle.machine.specs.declared.Outcome.{Outcome}
-use Rattle.std.specs.Iterator.Adapters.{most_cores, job_at, running}
-use Rattle.std.specs.Life.{with_job, without_job, with_transaction, unmarked, with_read, with_write, is_read_only, holds_back, struck_by, over}
-use Rattle.std.specs.Fn as Core
-use Rattle.std.specs.Fn.{first}
+use Rattle.one_core.specs.Parts.{most_cores, job_at, running}
+use Rattle.one_core.specs.Life.{with_job, without_job, with_transaction, unmarked, with_read, with_write, is_read_only, holds_back, struck_by, over}
+use Rattle.one_core.specs.Calls as Core
+use Rattle.one_core.specs.Calls.{first}
 use Rattle.machine.specs.Record.{core_at, active_at, sizes_in_range, blank, machine_of, put_core}
 use Rattle.machine.specs.Sound.{sound}
 

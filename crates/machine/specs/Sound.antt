@@ -3,10 +3,10 @@
 use Rattle.std.specs.Prelude.{ℕ, ◌+◌, Bool, not, ◌&&◌, ltb, leb, ◌==◌, nat_eq, nat_le, nat_lt, slice_index}
 use Rattle.objset.specs.Objset.{most_objects, each}
 use Rattle.machine.specs.declared.Machine.{Machine}
-use Rattle.std.specs.declared.Core.{Core}
+use Rattle.one_core.specs.declared.Core.{Core}
 use Rattle.machine.specs.Record.{core_at, active_at, tally, sizes_in_range}
-use Rattle.std.specs.Tidy.{◌⇒◌, sets_within_on, owner_listed_on, idle_clear_on, zombie_empty_on, few_jobs_on, unused_jobs_on, owner_first_on, unused, blank_on}
-use Rattle.std.specs.Iterator.Adapters.{most_cores}
+use Rattle.one_core.specs.Tidy.{◌⇒◌, sets_within_on, owner_listed_on, idle_clear_on, zombie_empty_on, few_jobs_on, unused_jobs_on, owner_first_on, unused, blank_on}
+use Rattle.one_core.specs.Parts.{most_cores}
 
 -- a rule that each of the sixteen places for cores keeps
 abbrev pub each_core : (Core → Bool) → Machine → Bool

@@ -2,12 +2,12 @@
 -- 'before' are the rest of the list.
 use Rattle.std.specs.Prelude.{ℕ, ◌+◌, Bool, true, false, cond, not, ◌&&◌, ◌||◌, List, [], ◌∷◌, ◌==◌, slice_index}
 use Rattle.objset.specs.Objset.{most_objects, some}
-use Rattle.std.specs.declared.Answer.{Answer}
-use Rattle.std.specs.declared.Answer.TheVariants.{Begun, Value, Written, Waits, Committed, SetBack, Ended}
+use Rattle.one_core.specs.declared.Answer.{Answer}
+use Rattle.one_core.specs.declared.Answer.TheVariants.{Begun, Value, Written, Waits, Committed, SetBack, Ended}
 use Rattle.machine.specs.Answers.{kind, values}
 use Rattle.machine.specs.Record.{tally}
 use Rattle.machine.specs.Rule.{Call, Release, Begin, Read, Write, Commit, GiveUp, Finish}
-use Rattle.std.specs.Iterator.Adapters.{most_cores}
+use Rattle.one_core.specs.Parts.{most_cores}
 
 -- a call and its answer
 pub record Event : Type 0 where

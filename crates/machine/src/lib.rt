@@ -8,7 +8,7 @@ ghost use Rattle.machine.specs.Sound.{sound, is_blank};
 ghost use Rattle.machine.specs.Rule as Rule;
 ghost use Rattle.machine.specs.Rule.{lent, left};
 ghost use Rattle.machine.specs.Record.{blank, sizes_in_range};
-ghost use Rattle.std.specs.declared.Answer.TheVariants.{Ready, Refused};
+ghost use Rattle.one_core.specs.declared.Answer.TheVariants.{Ready, Refused};
 ghost use Rattle.machine.specs.Claims.{EveryRun};
 ghost use Rattle.machine.specs.Refusals.{Numbered, NumberedSetup};
 

@@ -2,7 +2,7 @@
 // equation with the rules' own definitions in specs/Sound.antt. `turn_kept` asks for one of the sixteen places.
 ghost use Rattle.std.specs.Prelude.{◌≡◌, ◌<◌};
 ghost use Rattle.machine.specs.Sound.{cards_sound, turn_kept, cores_sound, sound, is_blank};
-ghost use Rattle.std.specs.Iterator.Adapters.{most_cores};
+ghost use Rattle.one_core.specs.Parts.{most_cores};
 
 use crate::{Machine, in_range};
 use one_core::{CORES, is_blank, is_tidy};

@@ -1,6 +1,6 @@
 -- What a line of a script asks for (document 01, 'Script and listing').
 use Rattle.std.specs.Prelude.{ℕ, true, false, cond, List, ◌==◌, nat_lt}
-use Rattle.std.specs.declared.calls.Act.TheVariants as Act
+use Rattle.one_core.specs.declared.calls.Act.TheVariants as Act
 use Rattle.script.specs.declared.Call.{Call}
 use Rattle.script.specs.declared.Call.TheVariants as Call
 use Rattle.script.specs.declared.Line.{Line}

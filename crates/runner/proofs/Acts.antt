@@ -9,7 +9,7 @@ use Rattle.machine.proofs.Case.{case-of}
 use Rattle.machine.specs.Inside.{WellFormedWorld}
 use Rattle.machine.proofs.Sound.Keeps.{keeps-good}
 use Rattle.runner.specs.Kept.{held, overlaid, BlankOrSound}
-use Rattle.std.specs.declared.Answer.{Answer}
+use Rattle.one_core.specs.declared.Answer.{Answer}
 use Rattle.runner.proofs.Over.{over-own, over-front}
 
 -- the words that a machine holds of tables that begin with its own

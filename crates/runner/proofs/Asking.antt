@@ -1,8 +1,8 @@
 -- What a line asks for, carried out: the answer that is listed, the world after it, and how lines are read on.
 use Rattle.std.proofs.Common.{◌≡◌, ℕ, Bool, true, false, cond, not, eqb, ltb, List, ◌∷◌, sym, refl, ap, ◌∙◌, true≢false, eqb-true}
-use Rattle.std.specs.Fn.{first}
-use Rattle.std.specs.declared.Answer.TheVariants.{Ready, Refused}
-use Rattle.std.specs.declared.calls.Act.{Act}
+use Rattle.one_core.specs.Calls.{first}
+use Rattle.one_core.specs.declared.Answer.TheVariants.{Ready, Refused}
+use Rattle.one_core.specs.declared.calls.Act.{Act}
 use Rattle.machine.specs.Record.{blank}
 use Rattle.machine.specs.Sound as Sound
 use Rattle.machine.specs.Rule as Rule

@@ -3,11 +3,11 @@
 use Rattle.std.proofs.Common.{◌≡◌, ℕ, suc, ◌+◌, ◌*◌, ◌/◌, ◌<◌, ◌≤◌, Bool, true, false, cond, not, ◌&&◌, ◌||◌, eqb, ltb, leb, ◌⊎◌, List, length, get_or, drop, sym, refl, ap, ◌∙◌, subst, inl, inr, ⊎_elim, true≢false, arith, drop_of_length-le, length-take-le, drop-cons, ltb-false, ltb-true, le-ltb, lt-ltb, eq-eqb, ne_eqb, eqb-true, le-leb, leb-true}
 use mathlib.Core.Bool.{or-true}
 use Rattle.machine.specs.Record.{blank}
-use Rattle.std.specs.Tidy.{◌⇒◌}
+use Rattle.one_core.specs.Tidy.{◌⇒◌}
 use Rattle.machine.specs.Sound.{sound, is_blank}
 use Rattle.machine.specs.declared.Machine.{Machine}
 use Rattle.machine.specs.Inside.{Formed, WellFormedWorld}
-use Rattle.std.proofs.TestLaws.{if-true, true-if, both}
+use Rattle.one_core.proofs.TestLaws.{if-true, true-if, both}
 use Rattle.machine.proofs.Sound.Standing.{Standing, standing}
 use Rattle.machine.proofs.BlankLaws.{blank-only, blank-passes}
 use Rattle.table.specs.Pieces.{free}

@@ -7,14 +7,14 @@ use Rattle.objset.specs.Objset.{has, collect, some, each, none, is_empty, added,
 use Rattle.decimal.specs.Spelling.{spelling, spelling_in}
 use Rattle.decimal.specs.Reading.{all_digits, no_leading_zero, value_after, is_number, read_as_number}
 use Rattle.machine.specs.Record.{tally}
-use Rattle.std.specs.Iterator.Adapters.{least, running}
+use Rattle.one_core.specs.Parts.{least, running}
 use Rattle.machine.specs.Sound.{in_range, sets_within, owner_listed, idle_clear, zombie_empty, few_jobs, unused_jobs, lacked_cores, lacked_objects, owner_first, tickets_differ, tickets_given, tickets_counted, versions_bounded, smaller_tickets, aborts_bounded, sound}
-use Rattle.std.specs.Fn.{first}
+use Rattle.one_core.specs.Calls.{first}
 use Rattle.machine.specs.Rule as Rule
 use Rattle.machine.specs.Rule.{unless, unless_lent, setup, released, release, begun, begin, set_back_told, access_refusal, value_read, valued, read, written, write, contender, blocked, least_by, cleared, changed, through, commit_refusal, commit, ended, give_up, finished, finish, rule}
-use Rattle.std.specs.Life.{struck_by}
-use Rattle.std.specs.declared.Answer.{Answer}
-use Rattle.std.specs.declared.Answer.TheVariants.{Running, Begun, Written, Committed, Refused}
+use Rattle.one_core.specs.Life.{struck_by}
+use Rattle.one_core.specs.declared.Answer.{Answer}
+use Rattle.one_core.specs.declared.Answer.TheVariants.{Running, Begun, Written, Committed, Refused}
 use Rattle.machine.specs.Words.{Event}
 use Rattle.table.specs.Pieces as Pieces
 use Rattle.table.specs.Pieces.{onto, pieces, lines, same}

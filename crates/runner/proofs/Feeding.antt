@@ -8,8 +8,8 @@ use Rattle.table.specs.Pieces.{lines, free}
 use Rattle.table.proofs.Laws.{lines-newline}
 use Rattle.machine.specs.Rule.{World}
 use Rattle.machine.specs.declared.Outcome.{Outcome}
-use Rattle.std.specs.declared.Answer.{Answer}
-use Rattle.std.specs.declared.Answer.TheVariants.{Ready}
+use Rattle.one_core.specs.declared.Answer.{Answer}
+use Rattle.one_core.specs.declared.Answer.TheVariants.{Ready}
 use Rattle.listing.specs.Text.{line, fitting, put}
 use Rattle.runner.specs.declared.Reading.{Reading}
 use Rattle.request.specs.declared.Asked.{Asked}

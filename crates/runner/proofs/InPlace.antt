@@ -3,13 +3,13 @@ use Rattle.std.proofs.Common.{◌≡◌, ℕ, zero, suc, ◌+◌, ◌*◌, ◌<�
 use lib.ListN.{get_or-append}
 use lib.Seq.{set-append_left}
 use Rattle.objset.specs.Objset.{has}
-use Rattle.std.specs.declared.Core.{Core}
-use Rattle.std.specs.declared.Answer.{Answer}
-use Rattle.std.specs.declared.calls.Act.{Act}
-use Rattle.std.specs.declared.calls.Seen.{Seen}
-use Rattle.std.specs.declared.calls.Acted.{Acted}
-use Rattle.std.specs.declared.calls.Settled.{Settled}
-use Rattle.std.specs.Fn.{object_of, act_on, commit_on}
+use Rattle.one_core.specs.declared.Core.{Core}
+use Rattle.one_core.specs.declared.Answer.{Answer}
+use Rattle.one_core.specs.declared.calls.Act.{Act}
+use Rattle.one_core.specs.declared.calls.Seen.{Seen}
+use Rattle.one_core.specs.declared.calls.Acted.{Acted}
+use Rattle.one_core.specs.declared.calls.Settled.{Settled}
+use Rattle.one_core.specs.Calls.{object_of, act_on, commit_on}
 use Rattle.machine.specs.declared.Machine.{Machine}
 use Rattle.machine.specs.declared.Outcome.{Outcome}
 use Rattle.machine.specs.declared.inside.calls.Found.{Found}

@@ -2,7 +2,7 @@
 use Rattle.std.proofs.Common.{◌≡◌, ℕ, ◌+◌, ◌<◌, ◌≤◌, Bool, true, false, cond, eqb, ltb, List, [], ◌∷◌, ◌++◌, length, sym, refl, ap, ◌∙◌, subst, true≢false, append-nil, arith, length-append, ltb-false, ltb-true, le-ltb, lt-ltb, ne_eqb, eqb-true}
 use borrow.Author.Tests.{eqb-false}
 use Rattle.machine.specs.Rule.{World}
-use Rattle.std.specs.declared.Answer.TheVariants.{Refused}
+use Rattle.one_core.specs.declared.Answer.TheVariants.{Refused}
 use Rattle.script.specs.declared.Columns.{Columns}
 use Rattle.script.specs.declared.Names.{Names}
 use Rattle.script.specs.declared.Names.TheVariants as Names

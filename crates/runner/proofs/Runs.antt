@@ -6,8 +6,8 @@ use Rattle.machine.specs.Rule as Rule
 use Rattle.machine.specs.Rule.{World, Result, rule}
 use Rattle.machine.specs.Words.{Event}
 use Rattle.machine.specs.Claims.{Run, fresh, then, Claim, worked}
-use Rattle.std.specs.declared.Answer.{Answer}
-use Rattle.std.specs.declared.Answer.TheVariants.{Ready}
+use Rattle.one_core.specs.declared.Answer.{Answer}
+use Rattle.one_core.specs.declared.Answer.TheVariants.{Ready}
 use Rattle.machine.proofs.Run.WholeRun.{whole_run}
 use Rattle.script.specs.declared.Call.{Call}
 use Rattle.script.specs.declared.Call.TheVariants as Call

@@ -4,9 +4,9 @@ use lib.ListN.{length-replicate}
 use lib.Seq.{length_front}
 use Rattle.machine.specs.Record.{blank, machine_of, sizes_in_range}
 use Rattle.machine.specs.Rule.{Result, lent, left, setup, unless_lent, misfit}
-use Rattle.std.specs.Fn.{first}
+use Rattle.one_core.specs.Calls.{first}
 use Rattle.machine.specs.declared.Outcome.{Outcome}
-use Rattle.std.specs.declared.Answer.TheVariants.{Ready, Refused}
+use Rattle.one_core.specs.declared.Answer.TheVariants.{Ready, Refused}
 use Rattle.machine.specs.Inside.{WellFormedWorld}
 use Rattle.machine.proofs.InsideLaws.{setup-left}
 use Rattle.machine.proofs.Sound.Passed.{in-range}

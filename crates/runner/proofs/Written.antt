@@ -1,6 +1,6 @@
 -- What a line of the listing leaves in an output that has room for it.
 use Rattle.std.proofs.Common.{◌≡◌, ℕ, ◌≤◌, List, ◌++◌, length, take, drop, sym, refl, ap, ◌∙◌, subst, take_at, drop_at, le-ltb}
-use Rattle.std.specs.declared.Answer.{Answer}
+use Rattle.one_core.specs.declared.Answer.{Answer}
 use Rattle.listing.specs.Text.{line, fitting, put}
 use Rattle.listing.proofs.Laws.{line-short}
 

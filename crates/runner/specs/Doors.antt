@@ -1,6 +1,6 @@
 -- What the runner's doors take: any reading, tables and output may be handed in.
 use Rattle.std.specs.Prelude.{ℕ, ◌+◌, ◌*◌, Bool, cond, not, ◌&&◌, ◌||◌, leb, ◌==◌, nat_le, nat_lt}
-use Rattle.std.specs.Tidy.{◌⇒◌}
+use Rattle.one_core.specs.Tidy.{◌⇒◌}
 use Rattle.machine.specs.Sound.{sound, is_blank}
 use Rattle.decimal.specs.Bytes.{byte}
 use Rattle.table.specs.Pieces.{free}

@@ -1,6 +1,6 @@
 // The soundness test of a reading, whatever its fields hold, and the test that tables and output fit it.
 ghost use Rattle.std.specs.Prelude.{◌≡◌, ◌+◌, ◌&&◌, ◌||◌, nat_le, nat_lt};
-ghost use Rattle.std.specs.Tidy.{◌⇒◌};
+ghost use Rattle.one_core.specs.Tidy.{◌⇒◌};
 ghost use Rattle.machine.specs.Sound.{sound, is_blank};
 ghost use Rattle.decimal.specs.Bytes.{byte};
 ghost use Rattle.table.specs.Pieces.{free};

@@ -2,9 +2,9 @@
 -- hand and with the one kept, and what is left of the list gives what the list gives; its measure is what is left of the list. The
 -- loop over the cores stands at one core (Striking); its measure is how many are left.
 use Rattle.std.proofs.Common.{◌≡◌, ◌+◌, ◌-◌, ◌*◌, ◌<◌, ◌≤◌, length, drop, set, sym, refl, ap, ◌∙◌, subst, ⊎_elim, arith, length-set, rules}
-use Rattle.std.specs.declared.Answer.TheVariants as Answer
-use Rattle.std.specs.declared.Core.{Core}
-use Rattle.std.specs.declared.calls.Settled.{Settled}
+use Rattle.one_core.specs.declared.Answer.TheVariants as Answer
+use Rattle.one_core.specs.declared.Core.{Core}
+use Rattle.one_core.specs.declared.calls.Settled.{Settled}
 use Rattle.machine.specs.declared.Outcome.{Outcome}
 use Rattle.machine.specs.Rule.{lent}
 use Rattle.machine.specs.Inside.{WellFormedWorld}

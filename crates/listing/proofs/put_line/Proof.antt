@@ -3,7 +3,7 @@ use Rattle.std.proofs.Common.{◌≡◌, ℕ, ◌+◌, ◌≤◌, List, ◌++◌
 use Rattle.decimal.specs.Bytes.{ascii}
 use Rattle.decimal.specs.Spelling.{spelling}
 use Rattle.decimal.proofs.Laws.{spelling-length}
-use Rattle.std.specs.declared.Answer.{Answer}
+use Rattle.one_core.specs.declared.Answer.{Answer}
 use Rattle.listing.specs.Text.{spaced, value_text, said, line}
 use Rattle.listing.proofs.Laws.{line-short, spaced-short, value-short, nothing_put, Stands, stands-none, stands-next, stands-length, stands-put}
 use Rattle.listing.proofs.put_line.Statement.{statement}

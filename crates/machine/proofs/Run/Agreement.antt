@@ -2,23 +2,23 @@
 -- follows the rule; and each deed finds what Orderly.antt says.
 use Rattle.std.proofs.Common.{◌≡◌, ℕ, ◌+◌, ◌*◌, ◌<◌, ◌≤◌, Bool, true, false, cond, ◌||◌, eqb, List, [], ◌∷◌, length, get_or, set, sym, refl, ap, ◌∙◌, subst, true≢false, zero-add, arith, length-set, get_or-set_other, get_or-set_same, eqb-true}
 use borrow.Author.Tests.{eqb-false}
-use Rattle.std.specs.declared.Core.{Core}
-use Rattle.std.specs.declared.Job.{Job}
-use Rattle.std.specs.declared.Answer.TheVariants.{SetBack, Refused}
+use Rattle.one_core.specs.declared.Core.{Core}
+use Rattle.one_core.specs.declared.Job.{Job}
+use Rattle.one_core.specs.declared.Answer.TheVariants.{SetBack, Refused}
 use Rattle.machine.specs.Answers.{kind}
-use Rattle.std.specs.Iterator.Adapters.{no_core}
+use Rattle.one_core.specs.Parts.{no_core}
 use Rattle.machine.specs.Record.{core_at, put_core}
-use Rattle.std.specs.Life as Life
+use Rattle.one_core.specs.Life as Life
 use Rattle.machine.specs.Rule as Rule
 use Rattle.machine.specs.Rule.{World, Call, Release, Begin, Read, Write, Commit, GiveUp, Finish, with_machine}
-use Rattle.std.specs.Life.{with_list, with_sets}
+use Rattle.one_core.specs.Life.{with_list, with_sets}
 use Rattle.objset.specs.Objset.{has, added}
 use Rattle.machine.proofs.Case.{Core-ok, Lent-ok, Asks, asks_read, asks_write, asks-commit}
 use Rattle.machine.specs.Words.{Deed, begins, reads, writes, waits, commits, told, gives, other, amounts, in_progress, births, wrote, any, attempt, strikes, set_backs}
 use Rattle.machine.specs.Serial.{effect, serial, version}
 use Rattle.machine.proofs.Run.Orderly.{Acting, Allowed}
 use Rattle.machine.proofs.Run.View.{View, view, concerns, view-other, view-begins, view-reads, view-writes, view-waits, view-told, view-gives}
-use Rattle.machine.proofs.Run.Effects.{lastWrite, effect-unwritten, effect-written}
+use Rattle.machine.proofs.Run.Effects.{last_write, effect-unwritten, effect-written}
 use Rattle.machine.proofs.Run.Places.{slot-inside, slot-core, slot-object}
 use Rattle.machine.proofs.Run.CoreAgrees.{CoreAgrees, agrees-idle, agrees-list, agrees-read, agrees-write, agrees-told, agrees-begun}
 
@@ -31,7 +31,7 @@ pub record Agree (o : ℕ) (w : World) (h : List Deed) : Type 0 where
   pub same-tickets : w.machine.tickets ≡ births h
   pub each-core : (c : ℕ) → CoreAgrees (core_at w.machine c) (view h c)
   pub same-committed : w.committed ≡ serial o h
-  pub same-pending : (c d : ℕ) → d < o → wrote (attempt h c) d ≡ true → get_or w.pending (c * o + d) 0 ≡ lastWrite (attempt h c) d
+  pub same-pending : (c d : ℕ) → d < o → wrote (attempt h c) d ≡ true → get_or w.pending (c * o + d) 0 ≡ last_write (attempt h c) d
   pub same_versions : (d : ℕ) → d < o → get_or w.machine.versions d 0 ≡ version h d
 
 -- one core put in: that core, and any other
@@ -127,7 +127,7 @@ after w n g ks p =
 
 module _ {o : ℕ} {w : World} {h : List Deed} (a : Agree o w h) (x : Deed) (quiet : Quiet x) where
   agree-quiet : (n g : ℕ) (ks : List Core) (p : List ℕ) → length ks ≡ 16 → ((c : ℕ) → CoreAgrees (get_or ks c no_core) (view (x ∷ h) c))
-      → ((c d : ℕ) → d < o → wrote (attempt (x ∷ h) c) d ≡ true → get_or p (c * o + d) 0 ≡ lastWrite (attempt (x ∷ h) c) d)
+      → ((c d : ℕ) → d < o → wrote (attempt (x ∷ h) c) d ≡ true → get_or p (c * o + d) 0 ≡ last_write (attempt (x ∷ h) c) d)
       → Agree o (after w n g ks p) (x ∷ h)
   agree-quiet n g ks p long all words =
       record {
@@ -149,7 +149,7 @@ module _ {o : ℕ} {w : World} {h : List Deed} (a : Agree o w h) (x : Deed) (qui
 
   -- one core k put at c, no attempt changed, the pending words as they were
   agree-core : (n g c : ℕ) (k : Core) → c < 16 → ((e : ℕ) → eqb c e ≡ false → concerns x e ≡ false) → CoreAgrees k (view (x ∷ h) c)
-      → ((d : ℕ) → d < o → wrote (attempt (x ∷ h) c) d ≡ true → get_or w.pending (c * o + d) 0 ≡ lastWrite (attempt (x ∷ h) c) d)
+      → ((d : ℕ) → d < o → wrote (attempt (x ∷ h) c) d ≡ true → get_or w.pending (c * o + d) 0 ≡ last_write (attempt (x ∷ h) c) d)
       → Agree o (after w n g (set w.machine.core c k) w.pending) (x ∷ h)
   agree-core n g c k hc apart new words =
       agree-quiet n g (set w.machine.core c k) w.pending (length-set w.machine.core c k ∙ a.cores-long)
@@ -157,9 +157,9 @@ module _ {o : ℕ} {w : World} {h : List Deed} (a : Agree o w h) (x : Deed) (qui
       (λ e. go e (eqb c e) refl)
     where
       go : (e : ℕ) (q : Bool) → eqb c e ≡ q → (d : ℕ) → d < o → wrote (attempt (x ∷ h) e) d ≡ true
-          → get_or w.pending (e * o + d) 0 ≡ lastWrite (attempt (x ∷ h) e) d
+          → get_or w.pending (e * o + d) 0 ≡ last_write (attempt (x ∷ h) e) d
       go e true q d l t =
-          subst (λ (i : ℕ). get_or w.pending (i * o + d) 0 ≡ lastWrite (attempt (x ∷ h) i) d) (eqb-true c e q)
+          subst (λ (i : ℕ). get_or w.pending (i * o + d) 0 ≡ last_write (attempt (x ∷ h) i) d) (eqb-true c e q)
           (words d l (rw (eqb-true c e q) t))
       go e false q d l t =
           let same : attempt (x ∷ h) e ≡ attempt h e = ap (λ (v : View). v.tried) (quiet-view e (apart e q)) in
@@ -233,7 +233,7 @@ module _ {o : ℕ} {w : World} {h : List Deed} (a : Agree o w h) where
 
   pub step-read : (c d v : ℕ) → Lent-ok w c → d < w.machine.objects → (core_at w.machine c).zombie ≡ false
       → Agree o (with_machine w (put_core w.machine c (with_sets (core_at w.machine c) (added (core_at w.machine c).reads d) (core_at w.machine c).writes))) (reads c d v ∷ h)
-  unfolding wrote any lastWrite
+  unfolding wrote any last_write
   step-read c d v ok hd z =
       agree-core a (reads c d v) tt w.machine.commits w.machine.give_ups c _ (inside a ok.core-ok) (λ e q. q)
       (rw (view-reads h c d v) (agrees-read (core_at w.machine c) (view h c) c d v (omega (arith, a.same-objects, a.objects-few)) z (a.each-core c)))
@@ -265,7 +265,7 @@ module _ {o : ℕ} {w : World} {h : List Deed} (a : Agree o w h) where
 
   pub step-write : (c d v : ℕ) → Lent-ok w c → d < w.machine.objects → (core_at w.machine c).zombie ≡ false
       → Agree o (Rule.written w c d v).world (writes c d v ∷ h)
-  unfolding Rule.written wrote any lastWrite
+  unfolding Rule.written wrote any last_write
   step-write c d v ok hd z =
       agree-quiet a (writes c d v) tt w.machine.commits w.machine.give_ups (set w.machine.core c _)
       (set w.pending (c * w.machine.objects + d) v) (length-set w.machine.core c _ ∙ a.cores-long)
@@ -284,7 +284,7 @@ module _ {o : ℕ} {w : World} {h : List Deed} (a : Agree o w h) where
       there : (f : ℕ) → f < o → c * o + f < length w.pending
       there f l = rw (ok.pending_long, a.same-objects) (slot-inside w.machine.cores o c f ok.core-ok.is-core l)
 
-      own : (f : ℕ) → f < o → (q : Bool) → eqb d f ≡ q → (q || wrote (attempt h c) f) ≡ true → get_or p (c * o + f) 0 ≡ cond q v (lastWrite (attempt h c) f)
+      own : (f : ℕ) → f < o → (q : Bool) → eqb d f ≡ q → (q || wrote (attempt h c) f) ≡ true → get_or p (c * o + f) 0 ≡ cond q v (last_write (attempt h c) f)
       own f l true q t =
           rw (a.same-objects, eqb-true d f q) (get_or-set_same w.pending (c * o + f) v 0 (there f l))
       own f l false q t =
@@ -292,10 +292,10 @@ module _ {o : ℕ} {w : World} {h : List Deed} (a : Agree o w h) where
           (get_or-set_other w.pending (c * o + d) (c * o + f) v 0 (λ s. eqb-false d f q (slot-object o c c d f hd' l (sym s))) ∙ a.same-pending c f l t)
 
       words : (e f : ℕ) → f < o → (q : Bool) → eqb c e ≡ q → wrote (attempt (writes c d v ∷ h) e) f ≡ true
-          → get_or p (e * o + f) 0 ≡ lastWrite (attempt (writes c d v ∷ h) e) f
+          → get_or p (e * o + f) 0 ≡ last_write (attempt (writes c d v ∷ h) e) f
       words e f l true q t =
           let same : attempt (writes c d v ∷ h) c ≡ writes c d v ∷ attempt h c = ap (λ (u : View). u.tried) (view-writes h c d v) in
-          subst (λ (i : ℕ). get_or p (i * o + f) 0 ≡ lastWrite (attempt (writes c d v ∷ h) i) f) (eqb-true c e q)
+          subst (λ (i : ℕ). get_or p (i * o + f) 0 ≡ last_write (attempt (writes c d v ∷ h) i) f) (eqb-true c e q)
           (rw same (own f l (eqb d f) refl (rw same at (rw (← eqb-true c e q) at t))))
       words e f l false q t =
           let same : attempt (writes c d v ∷ h) e ≡ attempt h e = ap (λ (u : View). u.tried) (quiet-view a (writes c d v) tt e q) in
@@ -340,7 +340,7 @@ module _ {o : ℕ} {w : World} {h : List Deed} (a : Agree o w h) where
       }
     where
       words : (e d : ℕ) → d < o → (q : Bool) → eqb c e ≡ q → wrote (attempt (begins c ∷ h) e) d ≡ true
-          → get_or w.pending (e * o + d) 0 ≡ lastWrite (attempt (begins c ∷ h) e) d
+          → get_or w.pending (e * o + d) 0 ≡ last_write (attempt (begins c ∷ h) e) d
       words e d l true q t =
           let none : attempt (begins c ∷ h) c ≡ [] = ap (λ (v : View). v.tried) (view-begins h c) in
           absurd (true≢false (sym (rw none at (rw (← eqb-true c e q) at t))))

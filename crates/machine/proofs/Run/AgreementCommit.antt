@@ -4,10 +4,10 @@ use Rattle.std.proofs.Common.{◌≡◌, ℕ, ◌+◌, ◌*◌, ◌<◌, Bool, t
 use lib.ListN.{get_or-eq_default}
 use borrow.Author.Tests.{not-true}
 use Rattle.objset.proofs.Laws.{both_left, both_right}
-use Rattle.std.specs.declared.Core.{Core}
-use Rattle.std.specs.Iterator.Adapters.{no_core}
+use Rattle.one_core.specs.declared.Core.{Core}
+use Rattle.one_core.specs.Parts.{no_core}
 use Rattle.machine.specs.Record.{core_at}
-use Rattle.std.specs.Life as Life
+use Rattle.one_core.specs.Life as Life
 use Rattle.machine.specs.Rule as Rule
 use Rattle.machine.specs.Rule.{World}
 use Rattle.machine.proofs.Case.{Lent-ok, not-ahead}
@@ -15,7 +15,7 @@ use Rattle.machine.specs.Words.{Deed, commits, in_progress, births, born, any, w
 use Rattle.machine.specs.Serial.{effect, serial, version}
 use Rattle.machine.proofs.Run.Orderly.{Committing}
 use Rattle.machine.proofs.Run.View.{View, view, Over, view-other, view-commits, view-struck}
-use Rattle.machine.proofs.Run.Effects.{lastWrite, effect-long}
+use Rattle.machine.proofs.Run.Effects.{last_write, effect-long}
 use Rattle.machine.proofs.Entries.{cleared_at, cleared-long, changed-at, changed-long}
 use Rattle.machine.proofs.Run.CoreAgrees.{CoreAgrees, agrees-idle, agrees-struck, meets-crosses, void-crosses, eqb-sym}
 use Rattle.machine.proofs.Run.Order.{born-apart}
@@ -134,12 +134,12 @@ module _ {o : ℕ} {w : World} {h : List Deed} (a : Agree o w h) (c : ℕ) (ok :
       x : Deed
       x = commits c n
 
-      words : (e d : ℕ) → d < o → (q : Bool) → eqb c e ≡ q → wrote (attempt (x ∷ h) e) d ≡ true → get_or w.pending (e * o + d) 0 ≡ lastWrite (attempt (x ∷ h) e) d
+      words : (e d : ℕ) → d < o → (q : Bool) → eqb c e ≡ q → wrote (attempt (x ∷ h) e) d ≡ true → get_or w.pending (e * o + d) 0 ≡ last_write (attempt (x ∷ h) e) d
       words e d l true q t =
           absurd (true≢false (sym (rw (view-commits h c n).1 at (rw (← eqb-true c e q) at t))))
       words e d l false q t = go (strikes x h e) refl
         where
-          go : (s : Bool) → strikes x h e ≡ s → get_or w.pending (e * o + d) 0 ≡ lastWrite (attempt (x ∷ h) e) d
+          go : (s : Bool) → strikes x h e ≡ s → get_or w.pending (e * o + d) 0 ≡ last_write (attempt (x ∷ h) e) d
           go true s =
               let void : attempt (x ∷ h) e ≡ [] = ap (λ (v : View). v.tried) (view-struck h c n e q s) in
               absurd (true≢false (sym (rw void at t)))

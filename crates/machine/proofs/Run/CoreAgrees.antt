@@ -5,10 +5,10 @@ use mathlib.Core.Bool.{or_comm, or_assoc}
 use borrow.Author.Tests.{eqb-false}
 use Rattle.objset.specs.Objset.{has, some, none, added, meeting}
 use Rattle.objset.proofs.Laws.{some_one, both_right, has-none, none-fits, filled-one, has-joined, has-added, added-fits}
-use Rattle.std.specs.declared.Core.{Core}
-use Rattle.std.specs.declared.Job.{Job}
-use Rattle.std.specs.Iterator.Adapters.{data_set}
-use Rattle.std.specs.Life.{with_list, with_sets, unmarked, aborted, is_read_only}
+use Rattle.one_core.specs.declared.Core.{Core}
+use Rattle.one_core.specs.declared.Job.{Job}
+use Rattle.one_core.specs.Parts.{data_set}
+use Rattle.one_core.specs.Life.{with_list, with_sets, unmarked, aborted, is_read_only}
 use Rattle.machine.specs.Words.{Deed, begins, reads, writes, waits, commits, told, gives, other, stores, stores_any, any, touched, wrote, wrote_nothing, crosses}
 use Rattle.machine.proofs.Run.View.{View, further, Over}
 

@@ -10,17 +10,17 @@ skip t n start [] r = r
 skip t n start (x ∷ stretch) r = between x (skip t n start stretch r)
 
 -- the last deeds, cut into stretches of these lengths, the newest first, are rounds
-unfoldable pub allRounds : ℕ → List Deed → List ℕ → List Deed → Bool
-allRounds t start [] since = true
-allRounds t start (m ∷ ms) since = is_round t (drop m since ++ start) (take m since) && allRounds t start ms (drop m since)
+unfoldable pub all_rounds : ℕ → List Deed → List ℕ → List Deed → Bool
+all_rounds t start [] since = true
+all_rounds t start (m ∷ ms) since = is_round t (drop m since ++ start) (take m since) && all_rounds t start ms (drop m since)
 
-pub all-rounds : (t : ℕ) (start : List Deed) (ms : List ℕ) (since : List Deed) → allRounds t start ms since ≡ true
+pub all-rounds : (t : ℕ) (start : List Deed) (ms : List ℕ) (since : List Deed) → all_rounds t start ms since ≡ true
     → Rounds t start (length ms) (since ++ start)
-unfolding allRounds
+unfolding all_rounds
 all-rounds t start [] since e = skip t 0 start since no_round
 all-rounds t start (m ∷ ms) since e =
     let now = is_round t (drop m since ++ start) (take m since) in
-    let rest = allRounds t start ms (drop m since) in
+    let rest = all_rounds t start ms (drop m since) in
     let one = one_round (take m since) (all-rounds t start ms (drop m since) (both_right now rest e)) (both_left now rest e) in
     subst (Rounds t start (suc (length ms)))
     (sym (append_assoc (take m since) (drop m since) start) ∙ ap (λ (r : List Deed). r ++ start) (take-append-drop m since)) one

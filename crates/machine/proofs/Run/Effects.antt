@@ -5,16 +5,16 @@ use Rattle.machine.specs.Words.{Deed, begins, reads, writes, waits, commits, tol
 use Rattle.machine.specs.Serial.{effect}
 
 -- the value of an attempt's newest write of card d
-unfoldable pub lastWrite : List Deed → ℕ → ℕ
-lastWrite [] d = 0
-lastWrite (begins b ∷ a) d = lastWrite a d
-lastWrite (reads b e v ∷ a) d = lastWrite a d
-lastWrite (writes b e v ∷ a) d = cond (eqb e d) v (lastWrite a d)
-lastWrite (waits b e ∷ a) d = lastWrite a d
-lastWrite (commits b n ∷ a) d = lastWrite a d
-lastWrite (told b ∷ a) d = lastWrite a d
-lastWrite (gives b ∷ a) d = lastWrite a d
-lastWrite (other ∷ a) d = lastWrite a d
+unfoldable pub last_write : List Deed → ℕ → ℕ
+last_write [] d = 0
+last_write (begins b ∷ a) d = last_write a d
+last_write (reads b e v ∷ a) d = last_write a d
+last_write (writes b e v ∷ a) d = cond (eqb e d) v (last_write a d)
+last_write (waits b e ∷ a) d = last_write a d
+last_write (commits b n ∷ a) d = last_write a d
+last_write (told b ∷ a) d = last_write a d
+last_write (gives b ∷ a) d = last_write a d
+last_write (other ∷ a) d = last_write a d
 
 pub effect-long : (a : List Deed) (t : List ℕ) → length (effect a t) ≡ length t
 unfolding effect
@@ -47,15 +47,15 @@ effect-unwritten (gives b ∷ a) t d p = effect-unwritten a t d p
 effect-unwritten (other ∷ a) t d p = effect-unwritten a t d p
 
 -- a card that it has written holds its last write
-pub effect-written : (a : List Deed) (t : List ℕ) (d : ℕ) → d < length t → wrote a d ≡ true → get_or (effect a t) d 0 ≡ lastWrite a d
-unfolding effect wrote any lastWrite
+pub effect-written : (a : List Deed) (t : List ℕ) (d : ℕ) → d < length t → wrote a d ≡ true → get_or (effect a t) d 0 ≡ last_write a d
+unfolding effect wrote any last_write
 effect-written [] t d h p = absurd (true≢false (sym p))
 effect-written (begins b ∷ a) t d h p = effect-written a t d h p
 effect-written (reads b e v ∷ a) t d h p = effect-written a t d h p
 effect-written (writes b e v ∷ a) t d h p = go (eqb e d) refl p (effect-written a t d h)
   where
     go : (q : Bool) → eqb e d ≡ q → (q || any (λ x. stores x d) a) ≡ true
-        → (wrote a d ≡ true → get_or (effect a t) d 0 ≡ lastWrite a d) → get_or (set (effect a t) e v) d 0 ≡ cond q v (lastWrite a d)
+        → (wrote a d ≡ true → get_or (effect a t) d 0 ≡ last_write a d) → get_or (set (effect a t) e v) d 0 ≡ cond q v (last_write a d)
     go true q r more =
         ap (λ (i : ℕ). get_or (set (effect a t) i v) d 0) (eqb-true e d q) ∙ get_or-set_same (effect a t) d v 0 (rw (effect-long a t) h)
     go false q r more = get_or-set_other (effect a t) e d v 0 (λ s. eqb-false e d q (sym s)) ∙ more r

@@ -94,9 +94,9 @@ module _ (o : ℕ) (x : Deed) (h : List Deed) (u : ℕ) (allowed : Allowed o x h
   struck-same : struck (x ∷ h) u ≡ struck h u
   struck-same = struck-kept x h u not-begun ∙ rw not-struck (omega arith)
 
-  setBacks-kept : set_backs (x ∷ h) u ≡ cond (told_on x u) 1 0 + set_backs h u
+  set_backs-kept : set_backs (x ∷ h) u ≡ cond (told_on x u) 1 0 + set_backs h u
   unfolding set_backs
-  setBacks-kept = rw not-begun
+  set_backs-kept = rw not-begun
 
   attempt-kept : ends_on x u ≡ false → attempt (x ∷ h) u ≡ cond (steps_on x u) (x ∷ attempt h u) (attempt h u)
   unfolding attempt
@@ -104,13 +104,13 @@ module _ (o : ℕ) (x : Deed) (h : List Deed) (u : ℕ) (allowed : Allowed o x h
 
   step-spends : ends_on x u ≡ false → steps_on x u ≡ true → told_on x u ≡ false → struck h u ≡ set_backs h u → spent h u < spent (x ∷ h) u
   step-spends e s t p =
-      let all_told : struck (x ∷ h) u ≡ set_backs (x ∷ h) u = struck-same ∙ rw (setBacks-kept, t) (omega arith) in
+      let all_told : struck (x ∷ h) u ≡ set_backs (x ∷ h) u = struck-same ∙ rw (set_backs-kept, t) (omega arith) in
       let longer : length (attempt (x ∷ h) u) ≡ suc (length (attempt h u)) = rw (attempt-kept e, s) in
       omega (arith, spent-told h u p, spent-told (x ∷ h) u all_told)
 
   told-spends : told_on x u ≡ true → struck h u ≡ suc (set_backs h u) → spent h u < spent (x ∷ h) u
   told-spends t p =
-      let all_told : struck (x ∷ h) u ≡ set_backs (x ∷ h) u = struck-same ∙ rw (setBacks-kept, t) (omega arith) in
+      let all_told : struck (x ∷ h) u ≡ set_backs (x ∷ h) u = struck-same ∙ rw (set_backs-kept, t) (omega arith) in
       omega (arith, spent-untold h u p, spent-told (x ∷ h) u all_told)
 
 -- ---- acts
@@ -154,6 +154,6 @@ pub eldest-rests : (o : ℕ) (x : Deed) (h : List Deed) (u : ℕ) → Allowed o 
 unfolding spent
 eldest-rests o x h u a old e =
     let (no_end, no_step, no_word) = idle x u e in
-    let same : set_backs (x ∷ h) u ≡ set_backs h u = setBacks-kept o x h u a old ∙ rw no_word (omega arith) in
+    let same : set_backs (x ∷ h) u ≡ set_backs h u = set_backs-kept o x h u a old ∙ rw no_word (omega arith) in
     let still : attempt (x ∷ h) u ≡ attempt h u = attempt-kept o x h u a old no_end ∙ rw no_step in
     (eldest-kept o x h u a old no_end, rw (struck-same o x h u a old, same, still))

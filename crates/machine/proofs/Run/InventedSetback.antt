@@ -3,7 +3,7 @@
 -- one keeps the claim.
 use Rattle.std.proofs.Common.{◌≡◌, ℕ, true, false, List, [], ◌∷◌, refl, arith}
 use Rattle.objset.specs.Objset.{some}
-use Rattle.std.specs.declared.Answer.TheVariants.{Begun, SetBack, Committed}
+use Rattle.one_core.specs.declared.Answer.TheVariants.{Begun, SetBack, Committed}
 use Rattle.machine.specs.Answers.{kind, values}
 use Rattle.machine.specs.Rule.{Begin, Commit}
 use Rattle.machine.specs.Words.{Event, Deed, begins, reads, writes, commits, told, gives, amounts, deeds, in_progress, any, touched, wrote, wrote_nothing, crosses, attempt, struck, set_backs}

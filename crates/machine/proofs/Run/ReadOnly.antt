@@ -3,9 +3,9 @@
 use Rattle.std.proofs.Common.{◌≡◌, ℕ, ◌+◌, ◌<◌, Bool, true, false, cond, not, ◌&&◌, eqb, ltb, List, ◌∷◌, sym, refl, ap, ◌∙◌, true≢false, zero-add, arith, ext_get_or, ltb-false, ltb-true}
 use mathlib.Core.Bool.{and-false}
 use Rattle.objset.proofs.Laws.{some_one, both_left}
-use Rattle.std.specs.declared.Answer.{Answer}
-use Rattle.std.specs.declared.Answer.TheVariants.{Committed}
-use Rattle.std.specs.Life.{is_read_only}
+use Rattle.one_core.specs.declared.Answer.{Answer}
+use Rattle.one_core.specs.declared.Answer.TheVariants.{Committed}
+use Rattle.one_core.specs.Life.{is_read_only}
 use Rattle.machine.specs.Record.{core_at}
 use Rattle.machine.specs.Inside.{WellFormedWorld}
 use Rattle.machine.specs.Sound.{sound}

@@ -3,12 +3,12 @@
 use Rattle.std.proofs.Common.{◌≡◌, ℕ, suc, ◌+◌, ◌<◌, Bool, true, false, cond, ◌&&◌, ◌||◌, ltb, List, [], ◌∷◌, replicate, sym, refl, ap, ◌∙◌, ap₂, true≢false, one-add, arith, ltb-false, ltb-true, lt-ltb}
 use lib.ListN.{get_or-replicate, get_or-eq_default}
 use Rattle.objset.proofs.Laws.{none-zero}
-use Rattle.std.specs.declared.Core.{Core}
-use Rattle.std.specs.declared.Answer.{Answer}
+use Rattle.one_core.specs.declared.Core.{Core}
+use Rattle.one_core.specs.declared.Answer.{Answer}
 use Rattle.machine.specs.declared.Machine.{Machine}
-use Rattle.std.specs.Life.{is_read_only, conflicting}
+use Rattle.one_core.specs.Life.{is_read_only, conflicting}
 use Rattle.machine.specs.Answers.{kind, values}
-use Rattle.std.specs.Iterator.Adapters.{no_core, blank_core}
+use Rattle.one_core.specs.Parts.{no_core, blank_core}
 use Rattle.machine.specs.Record.{core_at, machine_of, sizes_in_range}
 use Rattle.machine.specs.Rule as Rule
 use Rattle.machine.specs.Rule.{World, Call}

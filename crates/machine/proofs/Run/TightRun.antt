@@ -7,8 +7,8 @@ use Rattle.machine.specs.Record.{tally}
 use Rattle.machine.specs.Words.{Deed, begins, reads, writes, waits, commits, told, other, in_progress, births, born, ahead, any, touched, wrote, crosses, attempt, struck}
 use Rattle.machine.specs.Rounds.{among, is_round, Rounds, in-progress, committed, given-up, fate, AtMost}
 use Rattle.machine.specs.Claims.{Served}
-use Rattle.machine.proofs.Run.ShortAttempts.{coreBegun, begunBelow, short, allShort, at_most}
-use Rattle.machine.proofs.Run.CountedRounds.{allRounds, all-rounds, fewer}
+use Rattle.machine.proofs.Run.ShortAttempts.{core_begun, begun_below, short, all_short, at_most}
+use Rattle.machine.proofs.Run.CountedRounds.{all_rounds, all-rounds, fewer}
 
 -- two cores and one card, newest first: X on core 0 has struck E on core 1 and committed
 unfoldable pub early : List Deed
@@ -40,11 +40,11 @@ set-back-once s = s.at_most_k [] tight 0 refl
 -- ---- in progress after five rounds
 
 five-rounds : Rounds 2 start 5 (five ++ start)
-unfolding early start five in_progress births born any among is_round each allRounds
+unfolding early start five in_progress births born any among is_round each all_rounds
 five-rounds = all-rounds 2 start (1 ∷ 1 ∷ 2 ∷ 2 ∷ 2 ∷ []) five refl
 
 one_at_most : AtMost 1 2 start five
-unfolding early start five in_progress any touched wrote crosses attempt some each coreBegun begunBelow short allShort
+unfolding early start five in_progress any touched wrote crosses attempt some each core_begun begun_below short all_short
 one_at_most = at_most 2 1 2 start five refl
 
 in-progress-is-not : (in-progress ≡ committed → ⊥) × (in-progress ≡ given-up → ⊥)

@@ -1,8 +1,8 @@
 -- The claim about whole runs holds.
 use Rattle.std.proofs.Common.{◌≡◌, ℕ, List, [], ◌∷◌, ◌++◌, get_or, sym, refl, ap, ◌∙◌, subst, arith}
 use Rattle.machine.specs.declared.Outcome.{Outcome}
-use Rattle.std.specs.declared.Answer.{Answer}
-use Rattle.std.specs.declared.Answer.TheVariants.{Ready, Value}
+use Rattle.one_core.specs.declared.Answer.{Answer}
+use Rattle.one_core.specs.declared.Answer.TheVariants.{Ready, Value}
 use Rattle.machine.specs.Rule as Rule
 use Rattle.machine.specs.Rule.{World, lent, left, Call, Read, Commit, rule}
 use Rattle.machine.specs.Follows.{Follows}

@@ -5,18 +5,18 @@ use borrow.Author.Tests.{eqb-false}
 use Rattle.objset.specs.Objset.{has}
 use Rattle.objset.proofs.Laws.{both_left}
 use Rattle.machine.specs.declared.Machine.{Machine}
-use Rattle.std.specs.declared.Core.{Core}
-use Rattle.std.specs.Iterator.Adapters.{no_core}
+use Rattle.one_core.specs.declared.Core.{Core}
+use Rattle.one_core.specs.Parts.{no_core}
 use Rattle.machine.specs.Record.{core_at}
 use Rattle.machine.specs.Rule.{must_wait, cleared, changed, through}
-use Rattle.std.specs.Life.{is_struck, struck_by, over}
+use Rattle.one_core.specs.Life.{is_struck, struck_by, over}
 use Rattle.machine.proofs.Case.{not-ahead}
 use Rattle.machine.proofs.Sound.Turns.{Turns, turns-left}
-use Rattle.std.specs.Formed.{Formed-core}
+use Rattle.one_core.specs.Formed.{Formed-core}
 use Rattle.machine.specs.Inside.{Formed}
-use Rattle.std.proofs.Tidy.{Tidy}
+use Rattle.one_core.proofs.Tidy.{Tidy}
 use Rattle.machine.proofs.Sound.Standing.{Standing}
-use Rattle.std.proofs.Kept.{idle-formed, over-tidy, struck-keeps, struck-aborts, struck-tidy, struck-formed}
+use Rattle.one_core.proofs.Kept.{idle-formed, over-tidy, struck-keeps, struck-aborts, struck-tidy, struck-formed}
 use Rattle.machine.proofs.Entries.{cleared_at, cleared-long, changed-at, changed-long}
 use Rattle.machine.proofs.Sound.OneCore.{Whole}
 

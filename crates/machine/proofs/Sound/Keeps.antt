@@ -5,23 +5,23 @@ use lib.ListN.{length-replicate, get_or-replicate}
 use Rattle.objset.specs.Objset.{added}
 use Rattle.objset.proofs.Laws.{added-fits}
 use Rattle.machine.specs.declared.Machine.{Machine}
-use Rattle.std.specs.declared.Core.{Core}
-use Rattle.std.specs.declared.Job.{Job}
-use Rattle.std.specs.declared.Answer.{Answer}
-use Rattle.std.specs.declared.Answer.TheVariants.{Ready}
-use Rattle.std.specs.Iterator.Adapters.{no_job, no_core, idle, blank_core, running}
+use Rattle.one_core.specs.declared.Core.{Core}
+use Rattle.one_core.specs.declared.Job.{Job}
+use Rattle.one_core.specs.declared.Answer.{Answer}
+use Rattle.one_core.specs.declared.Answer.TheVariants.{Ready}
+use Rattle.one_core.specs.Parts.{no_job, no_core, idle, blank_core, running}
 use Rattle.machine.specs.Record.{core_at, put_core, machine_of}
 use Rattle.machine.specs.Rule.{World, slot, released, begun, set_back_told, valued, written, through, ended, finished, setup, Call}
-use Rattle.std.specs.Life.{with_job, unmarked, with_sets, without}
+use Rattle.one_core.specs.Life.{with_job, unmarked, with_sets, without}
 use Rattle.machine.proofs.Case.{Case, is-refused, is-released, is-begun, is-told, is-valued, is-written, is-waiting, is-through, is-ended, is-finished, setup-case}
 use Rattle.machine.proofs.Tally.{tally-within}
-use Rattle.std.specs.Formed.{Formed-core}
+use Rattle.one_core.specs.Formed.{Formed-core}
 use Rattle.machine.specs.Inside.{WellFormedWorld}
 use Rattle.machine.proofs.Sound.Passed.{in-range}
-use Rattle.std.proofs.Tidy.{Tidy}
+use Rattle.one_core.proofs.Tidy.{Tidy}
 use Rattle.machine.proofs.Sound.Standing.{standing, is_sound}
-use Rattle.std.proofs.Jobs.{running-least, least-listed}
-use Rattle.std.proofs.Kept.{idle-list, idle-tidy, idle-formed, released-tidy, released-formed, told-tidy, told-formed, sets-tidy, sets-formed, finished-tidy, finished-formed, added-within}
+use Rattle.one_core.proofs.Jobs.{running-least, least-listed}
+use Rattle.one_core.proofs.Kept.{idle-list, idle-tidy, idle-formed, released-tidy, released-formed, told-tidy, told-formed, sets-tidy, sets-formed, finished-tidy, finished-formed, added-within}
 use Rattle.machine.proofs.Entries.{changed-long}
 use Rattle.machine.proofs.Sound.OneCore.{Whole, inside, put_whole, begun-whole, ended-whole}
 use Rattle.machine.proofs.Sound.Commit.{through-whole}

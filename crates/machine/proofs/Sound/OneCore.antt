@@ -1,17 +1,17 @@
 -- The calls that change one core keep the standing rules and the shape of a record.
 use Rattle.std.proofs.Common.{◌≡◌, ℕ, ◌+◌, ◌<◌, ◌≤◌, true, false, length, get_or, set, refl, ◌∙◌, add_assoc, arith, length-set, get_or-set_other, get_or-set_same}
 use Rattle.machine.specs.declared.Machine.{Machine}
-use Rattle.std.specs.declared.Core.{Core}
-use Rattle.std.specs.Iterator.Adapters.{no_core}
+use Rattle.one_core.specs.declared.Core.{Core}
+use Rattle.one_core.specs.Parts.{no_core}
 use Rattle.machine.specs.Record.{core_at, put_core}
 use Rattle.machine.specs.Rule.{begun, ended}
-use Rattle.std.specs.Life.{over, with_transaction}
+use Rattle.one_core.specs.Life.{over, with_transaction}
 use Rattle.machine.proofs.Sound.Turns.{Turns, turns_same, turns-joined, turns-left}
-use Rattle.std.specs.Formed.{Formed-core}
+use Rattle.one_core.specs.Formed.{Formed-core}
 use Rattle.machine.specs.Inside.{Formed}
-use Rattle.std.proofs.Tidy.{Tidy}
+use Rattle.one_core.proofs.Tidy.{Tidy}
 use Rattle.machine.proofs.Sound.Standing.{Standing}
-use Rattle.std.proofs.Kept.{idle-formed, begun-tidy, begun-formed, over-tidy}
+use Rattle.one_core.proofs.Kept.{idle-formed, begun-tidy, begun-formed, over-tidy}
 use Rattle.machine.proofs.Entries.{put-each}
 
 -- a record of the right shape that keeps the standing rules

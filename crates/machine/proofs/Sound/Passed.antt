@@ -1,6 +1,6 @@
 -- Soundness is fifteen tests, and all of them pass.
 use Rattle.std.proofs.Common.{◌≡◌, ℕ, ◌<◌, ◌≤◌, true, ◌&&◌, ltb, leb, ltb-true, leb-true}
-use Rattle.std.proofs.TestLaws.{both}
+use Rattle.one_core.proofs.TestLaws.{both}
 use Rattle.machine.specs.declared.Machine.{Machine}
 use Rattle.machine.specs.Record.{sizes_in_range}
 use Rattle.machine.specs.Sound.{in_range, sets_within, owner_listed, idle_clear, zombie_empty, few_jobs, unused_jobs, lacked_cores, lacked_objects, owner_first, tickets_differ, tickets_given, tickets_counted, versions_bounded, aborts_bounded, sound}

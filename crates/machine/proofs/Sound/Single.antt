@@ -35,11 +35,11 @@ never-misfit {w} call g p =
 
 -- ---- which calls change a table
 
-abbrev pub isWrite : Call → Bool
-isWrite call = at call false false false true false false false
+abbrev pub is_write : Call → Bool
+is_write call = at call false false false true false false false
 
-abbrev pub isCommit : Call → Bool
-isCommit call = at call false false false false true false false
+abbrev pub is_commit : Call → Bool
+is_commit call = at call false false false false true false false
 
 -- a table that an accepted call keeps is kept by the call
 module _ (table : World → List ℕ) (w : World) where
@@ -58,7 +58,7 @@ pending w = w.pending
 committed : World → List ℕ
 committed w = w.committed
 
-pub only-write-pending : (w : World) (call : Call) → isWrite call ≡ false → (rule w call).world.pending ≡ w.pending
+pub only-write-pending : (w : World) (call : Call) → is_write call ≡ false → (rule w call).world.pending ≡ w.pending
 unfolding rule pending read commit set_back_told valued through
 only-write-pending w (Release c number deadline) p = refl
 only-write-pending w (Begin c) p = refl
@@ -72,7 +72,7 @@ only-write-pending w (Commit c) p =
 only-write-pending w (GiveUp c) p = refl
 only-write-pending w (Finish c) p = refl
 
-pub only-commit-committed : (w : World) (call : Call) → isCommit call ≡ false → (rule w call).world.committed ≡ w.committed
+pub only-commit-committed : (w : World) (call : Call) → is_commit call ≡ false → (rule w call).world.committed ≡ w.committed
 unfolding rule committed read write set_back_told valued written
 only-commit-committed w (Release c number deadline) p = refl
 only-commit-committed w (Begin c) p = refl

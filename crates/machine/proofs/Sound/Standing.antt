@@ -3,9 +3,9 @@
 use Rattle.std.proofs.Common.{◌≡◌, ℕ, ◌+◌, ◌<◌, ◌≤◌, Bool, true, false, not, ◌&&◌, eqb, ltb, leb, get_or, sym, refl, ap, ap₂, arith, ltb-false, ltb-true, lt-ltb, eq-eqb, ne_eqb, eqb-true, le-leb, leb-true}
 use borrow.Author.Tests.{eqb-false, not-true}
 use Rattle.objset.proofs.Laws.{each-one, one_each}
-use Rattle.std.specs.declared.Core.{Core}
-use Rattle.std.proofs.TestLaws.{if-true, true-if, both}
-use Rattle.std.proofs.Tidy.{Tidy, tidy-core, sets-pass, owner-passes, idle-passes, zombie-passes, few-pass, unused-pass, IsFirst-passes}
+use Rattle.one_core.specs.declared.Core.{Core}
+use Rattle.one_core.proofs.TestLaws.{if-true, true-if, both}
+use Rattle.one_core.proofs.Tidy.{Tidy, tidy-core, sets-pass, owner-passes, idle-passes, zombie-passes, few-pass, unused-pass, IsFirst-passes}
 use Rattle.machine.specs.declared.Machine.{Machine}
 use Rattle.machine.specs.Record.{core_at}
 use Rattle.machine.specs.Sound.{in_range, sets_within, owner_listed, idle_clear, zombie_empty, few_jobs, unused_jobs, lacked_cores, lacked_objects, owner_first, tickets_differ, tickets_given, tickets_counted, versions_bounded, smaller_tickets, aborts_bounded, sound}

@@ -3,7 +3,7 @@
 // sums in range.
 ghost use Rattle.std.specs.Prelude.{◌≡◌, ℕ, ◌+◌, ◌<◌, ◌≤◌, true, length, if◌then◌else◌, slice_index, slice_index_or};
 ghost use Rattle.objset.specs.Objset.{most_objects, has, is_empty};
-ghost use Rattle.std.specs.Iterator.Adapters.{most_cores, no_core};
+ghost use Rattle.one_core.specs.Parts.{most_cores, no_core};
 ghost use Rattle.machine.specs.Inside.{SoundWorld};
 ghost use Rattle.machine.specs.Rule.{lent, left, changed, commit as commitRule};
 ghost use Rattle.machine.specs.OneCore.{first_holding, struck_all};

@@ -3,7 +3,7 @@
 use Rattle.std.proofs.Common.{refl, rules}
 use Rattle.machine.specs.Rule.{rule, Commit}
 use Rattle.machine.proofs.Refusals.{smallest-given}
-use Rattle.std.proofs.TestLaws.{holds, breaks}
+use Rattle.one_core.proofs.TestLaws.{holds, breaks}
 use Rattle.machine.proofs.DoorLaws.{unsound-refused, misfit-refused, fine_of}
 use Rattle.machine.proofs.Told.{lent-told}
 use Rattle.machine.proofs.Machine.commit.Statement.{statement}

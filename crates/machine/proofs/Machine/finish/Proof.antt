@@ -2,7 +2,7 @@
 use Rattle.std.proofs.Common.{[], ap, rules}
 use Rattle.machine.specs.Rule.{lent, rule, Finish}
 use Rattle.machine.proofs.Refusals.{smallest-given}
-use Rattle.std.proofs.TestLaws.{holds, breaks}
+use Rattle.one_core.proofs.TestLaws.{holds, breaks}
 use Rattle.machine.proofs.DoorLaws.{unsound-refused}
 use Rattle.machine.proofs.Told.{told, handed}
 use Rattle.machine.proofs.Machine.finish.Statement.{statement}

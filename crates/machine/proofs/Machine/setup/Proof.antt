@@ -1,7 +1,7 @@
 -- `machine::Machine::setup` meets its contract.
 use Rattle.std.proofs.Common.{◌≡◌, ℕ, List, sym, ◌∙◌, arith, rules}
 use Rattle.machine.specs.declared.Outcome.{Outcome}
-use Rattle.std.specs.declared.Answer.TheVariants.{Ready}
+use Rattle.one_core.specs.declared.Answer.TheVariants.{Ready}
 use Rattle.machine.specs.Refusals.{NumberedSetup}
 use Rattle.machine.specs.Rule.{lent, left, setup}
 use Rattle.machine.specs.Claims.{EveryRun}

@@ -1,6 +1,6 @@
 -- `machine::soundness::all_zero` meets its contract.
 use Rattle.std.proofs.Common.{Bool, ◌&&◌, sym, ap, ◌∙◌, rules}
-use Rattle.std.proofs.TestLaws.{fails, holds, breaks}
+use Rattle.one_core.proofs.TestLaws.{fails, holds, breaks}
 use Rattle.machine.specs.Sound.{cores_sound}
 use Rattle.machine.proofs.BlankLaws.{Zero, zero-fields, blank-by-tests}
 use Rattle.machine.proofs.soundness.all_zero.Statement.{statement}

@@ -2,8 +2,8 @@
 use Rattle.std.proofs.Common.{◌≡◌, ◌-◌, ◌≤◌, true, ◌&&◌, refl, ◌∙◌, ap₂, ⊎_elim, arith, rules}
 use Rattle.objset.specs.Objset.{each}
 use Rattle.machine.specs.Record.{core_at, active_at, tally}
-use Rattle.std.proofs.Tidy.{blank-core}
-use Rattle.std.proofs.TestLaws.{holds, breaks, Each-none, each_more}
+use Rattle.one_core.proofs.Tidy.{blank-core}
+use Rattle.one_core.proofs.TestLaws.{holds, breaks, each_none, each_more}
 use Rattle.machine.proofs.Tally.{tally-none, tally-counts, tally-skips}
 use Rattle.machine.proofs.SoundLaws.{kept_at, tidy-had, tidy-lacked, turn_on, turn-off, kept-fails, kept-all}
 use Rattle.machine.proofs.soundness.cores_kept.Statement.{statement}
@@ -19,7 +19,7 @@ cast-cores : tie.Need-overflow-cast-cores invariant-loop decreases-loop
 cast-cores c = search rules
 
 loop-holds : tie.Need-loop-init invariant-loop decreases-loop
-loop-holds c = (omega arith, omega arith, tally-none _, Each-none _)
+loop-holds c = (omega arith, omega arith, tally-none _, each_none _)
 
 mul-k : tie.Need-overflow-mul-k invariant-loop decreases-loop
 mul-k c = search rules

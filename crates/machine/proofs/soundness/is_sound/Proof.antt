@@ -1,6 +1,6 @@
 -- `machine::soundness::is_sound` meets its contract.
 use Rattle.std.proofs.Common.{rules}
-use Rattle.std.proofs.TestLaws.{holds, breaks}
+use Rattle.one_core.proofs.TestLaws.{holds, breaks}
 use Rattle.machine.specs.Sound.{in_range}
 use Rattle.machine.proofs.SoundLaws.{out_of_range, unbounded, by-cores}
 use Rattle.machine.proofs.soundness.is_sound.Statement.{statement}

@@ -2,7 +2,7 @@
 use Rattle.std.proofs.Common.{◌≡◌, ℕ, ◌+◌, ◌-◌, ◌<◌, ◌≤◌, true, false, ltb, sym, refl, ap, ⊎_elim, arith, rules, below_none, below_more, le-ltb, lt-ltb, eq-eqb, ne_eqb}
 use Rattle.objset.proofs.Laws.{one_each}
 use Rattle.machine.specs.Record.{core_at, tally}
-use Rattle.std.proofs.TestLaws.{each-fails}
+use Rattle.one_core.proofs.TestLaws.{each-fails}
 use Rattle.machine.proofs.Tally.{tally-none, tally-counts, tally-skips}
 use Rattle.machine.specs.Sound.{smaller_at}
 use Rattle.machine.proofs.SoundLaws.{ahead-all, differs_from}

@@ -3,7 +3,7 @@ use Rattle.std.proofs.Common.{◌≡◌, ℕ, ◌-◌, ◌<◌, ◌≤◌, Bool,
 use borrow.Author.Tests.{lt-leb}
 use Rattle.objset.specs.Objset.{each}
 use Rattle.machine.specs.declared.Machine.{Machine}
-use Rattle.std.proofs.TestLaws.{each-fails, Each-none, Each-on}
+use Rattle.one_core.proofs.TestLaws.{each-fails, each_none, each_on}
 use Rattle.machine.proofs.SoundLaws.{card_at, versions-bounded}
 use Rattle.machine.proofs.soundness.versions_bounded.Statement.{statement}
 use Rattle.machine.proofs.soundness.versions_bounded.Tie as tie
@@ -46,7 +46,7 @@ cast-objects : tie.Need-overflow-cast-objects invariant-loop decreases-loop
 cast-objects c = search rules
 
 loop-holds : tie.Need-loop-init invariant-loop decreases-loop
-loop-holds c = (omega arith, sym (Each-none _))
+loop-holds c = (omega arith, sym (each_none _))
 
 mul-if2 : tie.Need-overflow-mul-if2 invariant-loop decreases-loop
 mul-if2 c = search rules
@@ -69,7 +69,7 @@ loop-again c =
     let at_most : Most m l.loop.d most.most = ⊎_elim (λ w. inl (w.0.taken, w.1)) (λ w. inr (w.0.left, w.1)) most.branch in (
       omega arith,
       ⊎_elim (λ w. w.1 ∙ each-fails _ (card_at m) l.loop.d (omega arith) (exceeds m _ _ at_most w.0.taken))
-          (λ w. w.1 ∙ l.loop.invariant.1 ∙ Each-on l.loop.d (card_at m) (fits m _ _ at_most w.0.left)) c.if2.branch,
+          (λ w. w.1 ∙ l.loop.invariant.1 ∙ each_on l.loop.d (card_at m) (fits m _ _ at_most w.0.left)) c.if2.branch,
     )
 
 returns : tie.Need-returns invariant-loop decreases-loop

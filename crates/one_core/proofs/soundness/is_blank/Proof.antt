@@ -8,8 +8,8 @@ use Rattle.objset.specs.Objset.{each}
 use Rattle.one_core.specs.declared.Core.{Core}
 use Rattle.one_core.specs.Parts.{no_job}
 use Rattle.one_core.specs.Tidy.{zero_job}
-use Rattle.one_core.proofs.TestLaws.{Each-none}
-use Rattle.one_core.proofs.TidyLaws.{job-zero, or-zero, Each-next, numbers, no_numbers, not-blank-active, not-blank-marked, not-blank-number, blank-by-sets}
+use Rattle.one_core.proofs.TestLaws.{each_none}
+use Rattle.one_core.proofs.TidyLaws.{job-zero, or-zero, each_next, numbers, no_numbers, not-blank-active, not-blank-marked, not-blank-number, blank-by-sets}
 use Rattle.one_core.proofs.soundness.is_blank.Statement.{statement}
 use Rattle.one_core.proofs.soundness.is_blank.Tie as tie
 
@@ -36,7 +36,7 @@ cast-all-4 : tie.Need-overflow-cast-all-4 invariant-loop decreases-loop
 cast-all-4 c = search rules
 
 loop-holds : tie.Need-loop-init invariant-loop decreases-loop
-loop-holds c = (omega arith, rw Each-none refl)
+loop-holds c = (omega arith, rw each_none refl)
 
 mul-j : tie.Need-overflow-mul-j invariant-loop decreases-loop
 mul-j c = search rules
@@ -68,7 +68,7 @@ loop-again c =
     let j = get_or (tested l).jobs l.loop.p no_job in (
       omega arith,
       or-zero (j.number + j.deadline * 4294967296) l.loop.all ∙ ap₂ ◌&&◌ (job-zero j.number j.deadline) l.loop.invariant.1
-          ∙ Each-next l.loop.p _ _,
+          ∙ each_next l.loop.p _ _,
     )
 
 -- what was joined tells of every number

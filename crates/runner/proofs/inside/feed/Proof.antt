@@ -1,9 +1,9 @@
 -- `runner::inside::feed` meets its contract. The loop's invariant is `Feeding`, that of the loop that strikes is `Striking`.
 use Rattle.std.proofs.Common.{◌≡◌, ℕ, ◌+◌, ◌-◌, ◌*◌, ◌<◌, ◌≤◌, true, List, sym, refl, ap, ◌∙◌, subst, ⊎_elim, mul-le-mul, arith, length-set, length-take-le, rules}
 use lib.ListN as Nat
-use Rattle.std.specs.declared.Core.{Core}
-use Rattle.std.specs.declared.Answer.{Answer}
-use Rattle.std.specs.declared.calls.Settled.{Settled}
+use Rattle.one_core.specs.declared.Core.{Core}
+use Rattle.one_core.specs.declared.Answer.{Answer}
+use Rattle.one_core.specs.declared.calls.Settled.{Settled}
 use Rattle.machine.specs.Inside.{WellFormedWorld}
 use Rattle.machine.proofs.Sound.Keeps.{whole}
 use Rattle.machine.proofs.CoreCalls.{core-found, to-core, core-there, object-there, to-slot, to-settles, to-fits}

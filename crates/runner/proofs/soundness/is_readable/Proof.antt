@@ -1,8 +1,8 @@
 -- `runner::soundness::is_readable` meets its contract: the tests of `readable` one by one.
 use Rattle.std.proofs.Common.{◌≡◌, ◌+◌, Bool, true, false, ◌&&◌, ltb, leb, length, sym, arith, length-take-le, rules, le-leb}
 use borrow.Author.Tests.{lt-leb}
-use Rattle.std.proofs.TestLaws.{holds, breaks}
-use Rattle.std.specs.Tidy.{◌⇒◌}
+use Rattle.one_core.proofs.TestLaws.{holds, breaks}
+use Rattle.one_core.specs.Tidy.{◌⇒◌}
 use Rattle.request.specs.Asks.{most_lines}
 use Rattle.runner.specs.declared.Reading.{Reading}
 use Rattle.runner.specs.Kept.{kept_bytes}

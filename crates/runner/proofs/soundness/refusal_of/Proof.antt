@@ -1,6 +1,6 @@
 -- `runner::soundness::refusal_of` meets its contract: the smallest number comes first.
 use Rattle.std.proofs.Common.{sym, ◌∙◌, rules, le-ltb, lt-ltb, eq-eqb, ne_eqb}
-use Rattle.std.proofs.TestLaws.{holds, breaks}
+use Rattle.one_core.proofs.TestLaws.{holds, breaks}
 use Rattle.runner.specs.Kept.{committed_words, pending_words}
 use Rattle.runner.specs.Doors.{refusal}
 use Rattle.runner.proofs.Doors.{room-test}

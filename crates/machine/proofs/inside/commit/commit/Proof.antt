@@ -1,6 +1,6 @@
 -- `machine::inside::commit::commit` meets its contract.
 use Rattle.std.proofs.Common.{◌≡◌, ◌<◌, sym, subst, arith, rules}
-use Rattle.std.specs.declared.calls.Settled.{Settled}
+use Rattle.one_core.specs.declared.calls.Settled.{Settled}
 use Rattle.machine.specs.OneCore.{found}
 use Rattle.machine.proofs.Typed.{machine-formed}
 use Rattle.machine.proofs.CoreCalls.{core-found, to-core, core-there, few_words, to-settles}

@@ -1,6 +1,6 @@
 -- `machine::inside::commit::strike` meets its contract.
 use Rattle.std.proofs.Common.{◌-◌, ◌≤◌, set, sym, refl, ap, ◌∙◌, ⊎_elim, arith, rules}
-use Rattle.std.specs.declared.Core.{Core}
+use Rattle.one_core.specs.declared.Core.{Core}
 use Rattle.machine.specs.OneCore.{struck_all}
 use Rattle.machine.proofs.Front.{Stands}
 use Rattle.machine.proofs.CoreLists.{strikes-next, strikes-hit, strikes-missed, strikes-done}
