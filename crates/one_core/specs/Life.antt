@@ -1,6 +1,6 @@
 -- What becomes of a core: a job joins or leaves its list; its transaction is begun, told, struck, over, a card joins a set; and which
 -- two transactions conflict.
-use Rattle.std.specs.Prelude.{ℕ, suc, ◌+◌, ◌-◌, Bool, true, false, cond, ◌&&◌, ◌||◌, List, [], ◌∷◌, ◌++◌, take, drop, set, nat_lt, slice_set}
+use Rattle.std.specs.Prelude.{ℕ, suc, ◌+◌, ◌-◌, Bool, true, false, cond, ◌&&◌, ◌||◌, List, [], ◌∷◌, ◌++◌, take, drop, nat_lt, slice_set}
 use Rattle.objset.specs.Objset.{none, is_empty, added, meeting}
 use Rattle.one_core.specs.declared.Core.{Core}
 use Rattle.one_core.specs.declared.Job.{Job}

@@ -1,5 +1,5 @@
 -- The parts of a core: a job, a core without a transaction, the data set, the running job.
-use Rattle.std.specs.Prelude.{ℕ, zero, suc, Bool, false, cond, List, [], get_or, replicate, nat_lt, slice_index_or}
+use Rattle.std.specs.Prelude.{ℕ, zero, suc, false, cond, List, [], get_or, replicate, nat_lt, slice_index_or}
 use Rattle.objset.specs.Objset.{none, joined}
 use Rattle.one_core.specs.declared.Core.{Core}
 use Rattle.one_core.specs.declared.Job.{Job}

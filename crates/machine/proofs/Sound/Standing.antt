@@ -5,7 +5,7 @@ use borrow.Author.Tests.{eqb-false, not-true}
 use Rattle.objset.proofs.Laws.{each-one, one_each}
 use Rattle.one_core.specs.declared.Core.{Core}
 use Rattle.one_core.proofs.TestLaws.{if-true, true-if, both}
-use Rattle.one_core.proofs.Tidy.{Tidy, tidy-core, sets-pass, owner-passes, idle-passes, zombie-passes, few-pass, unused-pass, IsFirst-passes}
+use Rattle.one_core.proofs.Tidy.{Tidy, tidy-core, sets-pass, owner-passes, idle-passes, zombie-passes, few-pass, unused-pass, first_passes}
 use Rattle.machine.specs.declared.Machine.{Machine}
 use Rattle.machine.specs.Record.{core_at}
 use Rattle.machine.specs.Sound.{in_range, sets_within, owner_listed, idle_clear, zombie_empty, few_jobs, unused_jobs, lacked_cores, lacked_objects, owner_first, tickets_differ, tickets_given, tickets_counted, versions_bounded, smaller_tickets, aborts_bounded, sound}
@@ -119,7 +119,7 @@ is_sound {m} s =
           (λ h. rw (s.lacked-jobs c l (leb-true m.cores c h), s.turns.lacked c l (leb-true m.cores c h))));
       passed-lacked-objects =
           one_each 64 _ (λ d l. true-if (leb m.objects d) _ (λ h. rw (s.lacked-objects d l (leb-true m.objects d h))));
-      passed-owner-first = one_each 16 _ (λ c l. IsFirst-passes _ _ (s.tidy c l));
+      passed-owner-first = one_each 16 _ (λ c l. first_passes _ _ (s.tidy c l));
       passed-tickets-differ =
           one_each 16 _
           (λ c l. one_each c _

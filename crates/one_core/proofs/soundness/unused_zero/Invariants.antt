@@ -1,0 +1,11 @@
+-- `one_core::soundness::unused_zero` meets its contract: every unused place passed holds zeros.
+use Rattle.std.specs.Prelude.{◌≡◌, ℕ, ◌-◌, ◌<◌, ◌≤◌, true, get_or}
+use Rattle.one_core.specs.Parts.{no_job}
+use Rattle.one_core.specs.Tidy.{zero_job}
+use Rattle.one_core.proofs.soundness.unused_zero.Given as goal
+
+abbrev pub invariant-loop-p : goal.invariant-loop-p
+invariant-loop-p l = (l.initial.p ≤ l.p) × ((q : ℕ) → q < l.p → l.initial.p ≤ q → zero_job (get_or l.jobs q no_job) ≡ true)
+
+abbrev pub decreases-loop-p : goal.decreases-loop-p
+decreases-loop-p l = 8 - l.p
