@@ -17,7 +17,9 @@ import subprocess
 OLD, NEW = "core", "one_core"
 # a name whose snake case names something else here
 OTHER = {"allHold": "all_examples_hold", "outOfRange": "sizes_out_of_range", "readsAs": "read_as_number"}
-DECLARED = re.compile(r"^\s*(?:(?:pub|abbrev|unfoldable|data|record|mutual)\s+)*([^\s(){}.,;:]+)(?:\s+[({][^:]*)?\s+:\s")
+# names that an import gives
+ALIASES = {"setupRule": "setup_rule", "commitRule": "commit_rule"}
+DECLARED = re.compile(r"^\s*(?:(?:pub|abbrev|unfoldable|data|record|mutual)\s+)*([^\s(){}.,;:]+)(?:\s+[({][^:]*)?\s+:(?:\s|$)")
 # port.py read paths of the crate core as paths of that library, or of std, and some of its modules as theirs
 GARBLED = [
     (r"\bRattle\.core\.specs\.Prelude\b", "Rattle.std.specs.Prelude"),
@@ -71,9 +73,9 @@ def core_paths(text):
 
 def own_names():
     """The names to turn: those in camel case of specs/ and proofs/, and the fields of specs/ with a dash."""
-    turned = {}
+    turned = dict(ALIASES)
     for path in files(".antt"):
-        lemmas = re.search(r"/specs/|/proofs/(\w+/)*\w+\.antt$", path) and not path.endswith("Proof.antt")
+        lemmas = re.search(r"/specs/|/proofs/(\w+/)*\w+\.antt$", path) and os.path.basename(path) not in ("Proof.antt", "Answers.antt", "Invariants.antt")
         for line in read(path).split("\n"):
             m = DECLARED.match(line)
             if not m:

@@ -5,7 +5,7 @@
 
 ghost use Rattle.std.specs.Prelude.{◌≡◌, if◌then◌else◌};
 ghost use Rattle.one_core.specs.declared.Answer.TheVariants.{Ready, Refused};
-ghost use Rattle.machine.specs.Rule.{lent, setup as setupRule};
+ghost use Rattle.machine.specs.Rule.{lent, setup as setup_rule};
 ghost use Rattle.machine.specs.Inside.{WellFormedWorld};
 ghost use Rattle.machine.specs.Sound.{sound};
 ghost use Rattle.bench_calls.specs.Lists.{number_of, asked_of, door, inside, ready, run, door_run, inside_run};
@@ -147,9 +147,9 @@ pub extern "C" fn bench_calls_door(
     committed: &mut [u32],
     pending: &mut [u32],
 ) -> u32
-    ensures number { result ≡ (door_run (setupRule cores cards committed.old pending.old) list.now).last }
-    ensures committed { committed.new ≡ (door_run (setupRule cores cards committed.old pending.old) list.now).world.committed }
-    ensures pending { pending.new ≡ (door_run (setupRule cores cards committed.old pending.old) list.now).world.pending }
+    ensures number { result ≡ (door_run (setup_rule cores cards committed.old pending.old) list.now).last }
+    ensures committed { committed.new ≡ (door_run (setup_rule cores cards committed.old pending.old) list.now).world.committed }
+    ensures pending { pending.new ≡ (door_run (setup_rule cores cards committed.old pending.old) list.now).world.pending }
 {
     let o = Machine::setup(cores, cards, committed, pending);
     let mut m = o.machine;
@@ -261,9 +261,9 @@ pub extern "C" fn bench_calls_inside(
     committed: &mut [u32],
     pending: &mut [u32],
 ) -> u32
-    ensures number { result ≡ (inside_run (setupRule cores cards committed.old pending.old) list.now).last }
-    ensures committed { committed.new ≡ (inside_run (setupRule cores cards committed.old pending.old) list.now).world.committed }
-    ensures pending { pending.new ≡ (inside_run (setupRule cores cards committed.old pending.old) list.now).world.pending }
+    ensures number { result ≡ (inside_run (setup_rule cores cards committed.old pending.old) list.now).last }
+    ensures committed { committed.new ≡ (inside_run (setup_rule cores cards committed.old pending.old) list.now).world.committed }
+    ensures pending { pending.new ≡ (inside_run (setup_rule cores cards committed.old pending.old) list.now).world.pending }
 {
     let o = Machine::setup(cores, cards, committed, pending);
     let answer = o.answer;

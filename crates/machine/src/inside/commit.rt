@@ -5,7 +5,7 @@ ghost use Rattle.std.specs.Prelude.{◌≡◌, ℕ, ◌+◌, ◌<◌, ◌≤◌,
 ghost use Rattle.objset.specs.Objset.{most_objects, has, is_empty};
 ghost use Rattle.one_core.specs.Parts.{most_cores, no_core};
 ghost use Rattle.machine.specs.Inside.{SoundWorld};
-ghost use Rattle.machine.specs.Rule.{lent, left, changed, commit as commitRule};
+ghost use Rattle.machine.specs.Rule.{lent, left, changed, commit as commit_rule};
 ghost use Rattle.machine.specs.OneCore.{first_holding, struck_all};
 
 use crate::inside::calls::find_core;
@@ -93,7 +93,7 @@ fn strike(mut cores: [Core; CORES], ws: u64) -> [Core; CORES]
 // pending table keeps every word.
 pub fn commit(mut m: Machine, core: u32, committed: &mut [u32], pending: &mut [u32]) -> Outcome
     requires { SoundWorld (lent m committed.old pending.old) }
-    ensures rule { left result committed.new pending.new ≡ commitRule (lent m committed.old pending.old) core }
+    ensures rule { left result committed.new pending.new ≡ commit_rule (lent m committed.old pending.old) core }
 {
     let to = find_core(core, m.cores);
     let c = to.core;
