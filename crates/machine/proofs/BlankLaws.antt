@@ -1,5 +1,5 @@
 -- The blank record: `is_blank` is the tests of cards and cores where nothing is uncounted; it holds of the blank record and of no other.
-use Rattle.std.proofs.Common.{◌≡◌, ℕ, ◌+◌, ◌<◌, ◌≤◌, Bool, true, false, ◌&&◌, eqb, leb, List, length, get_or, replicate, sym, refl, ap, ◌∙◌, ap₂, arith, ext_get_or, eq-eqb, eqb-true, le-leb}
+use Rattle.std.proofs.Common.{◌≡◌, ℕ, ◌+◌, ◌<◌, ◌≤◌, Bool, true, false, ◌&&◌, eqb, leb, get_or, replicate, sym, refl, ap, ◌∙◌, ap₂, arith, ext_get_or, eq-eqb, eqb-true, le-leb}
 use lib.ListN.{length-replicate, get_or-replicate}
 use Rattle.objset.specs.Objset.{each}
 use Rattle.objset.proofs.Laws.{each-one, one_each, empty-none, none-empty}

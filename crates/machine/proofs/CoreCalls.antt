@@ -6,7 +6,6 @@ use Rattle.one_core.specs.declared.Core.{Core}
 use Rattle.one_core.specs.declared.Answer.{Answer}
 use Rattle.one_core.specs.declared.Answer.TheVariants.{Refused}
 use Rattle.one_core.specs.declared.calls.Act.{Act}
-use Rattle.one_core.specs.declared.calls.Act.TheVariants as Act
 use Rattle.one_core.specs.declared.calls.Seen.{Seen}
 use Rattle.one_core.specs.declared.calls.Acted.{Acted}
 use Rattle.one_core.specs.Calls as Core

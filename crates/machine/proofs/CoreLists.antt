@@ -1,7 +1,7 @@
 -- Lists of cores: the cores after a commit.
 use Rattle.std.proofs.Common.{◌≡◌, ℕ, zero, suc, ◌+◌, ◌<◌, ◌≤◌, Bool, true, false, cond, ◌&&◌, List, [], ◌∷◌, length, get_or, set, sym, refl, ap, ◌∙◌, ap₂, arith, eq-eqb, ne_eqb}
 use mathlib.Core.Bool.{and-false}
-use Rattle.objset.specs.Objset.{has, none, is_empty, meeting}
+use Rattle.objset.specs.Objset.{none, is_empty}
 use Rattle.objset.proofs.Laws.{has-none, empty-meeting}
 use Rattle.one_core.specs.declared.Core.{Core}
 use Rattle.one_core.specs.Parts.{no_core, data_set}

@@ -6,7 +6,6 @@ pub mod CoreCalls
 pub mod CoreLists
 mod Least
 mod Facts
-pub mod Typed
 pub mod Front
 mod SetLoop
 pub mod CommitLaws

@@ -1,9 +1,8 @@
 -- A call takes one core out of the record and puts it back: where it finds it, what it sees beside it, and what is put back.
-use Rattle.std.specs.Prelude.{ℕ, ◌+◌, ◌*◌, Bool, cond, not, ◌&&◌, List, [], ◌∷◌, get_or, set, replicate, nat_lt, slice_index, slice_index_or, slice_set}
+use Rattle.std.specs.Prelude.{ℕ, ◌+◌, ◌*◌, Bool, cond, not, ◌&&◌, List, [], ◌∷◌, get_or, replicate, nat_lt, slice_index, slice_index_or, slice_set}
 use Rattle.objset.specs.Objset.{some}
 use Rattle.one_core.specs.declared.Core.{Core}
 use Rattle.one_core.specs.declared.calls.Act.{Act}
-use Rattle.one_core.specs.declared.calls.Act.TheVariants as Act
 use Rattle.one_core.specs.declared.calls.Seen.{Seen}
 use Rattle.one_core.specs.declared.calls.Acted.{Acted}
 use Rattle.one_core.specs.declared.calls.Settled.{Settled}

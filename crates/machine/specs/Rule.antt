@@ -1,6 +1,6 @@
 -- The eight calls (document 01, as document 02 amends it): for each the answer and what comes after it, refusals first, the smallest that
 -- applies.
-use Rattle.std.specs.Prelude.{ℕ, zero, suc, ◌+◌, ◌*◌, Bool, cond, not, ◌&&◌, List, [], ◌∷◌, length, set, replicate, ◌==◌, nat_lt, slice_index, slice_set}
+use Rattle.std.specs.Prelude.{ℕ, zero, suc, ◌+◌, ◌*◌, Bool, cond, not, ◌&&◌, List, [], ◌∷◌, length, replicate, ◌==◌, nat_lt, slice_index, slice_set}
 use Rattle.objset.specs.Objset.{has, some}
 use Rattle.machine.specs.declared.Machine.{Machine}
 use Rattle.one_core.specs.declared.Core.{Core}

@@ -16,9 +16,9 @@ use crate::inside::calls::{access, alone};
 use crate::inside::commit;
 use crate::setup::{clear, fresh};
 use crate::soundness::{all_zero, is_sound};
+use objset::OBJECTS;
 use one_core::calls::Act;
 use one_core::{Answer, CORES, Core};
-use objset::OBJECTS;
 
 pub mod inside;
 mod setup;

@@ -3,8 +3,8 @@ ghost use Rattle.std.specs.Prelude.{◌≡◌, length, replicate};
 ghost use Rattle.machine.specs.Record.{machine_of};
 
 use crate::Machine;
-use one_core::{CORES, Core};
 use objset::OBJECTS;
+use one_core::{CORES, Core};
 
 // A machine of that many cores and objects with no job and no transaction; of 0 and 0, the blank record.
 pub fn fresh(cores: u8, objects: u8) -> Machine

@@ -5,8 +5,8 @@ ghost use Rattle.machine.specs.Sound.{cards_sound, turn_kept, cores_sound, sound
 ghost use Rattle.one_core.specs.Parts.{most_cores};
 
 use crate::{Machine, in_range};
-use one_core::{CORES, is_blank, is_tidy};
 use objset::OBJECTS;
+use one_core::{CORES, is_blank, is_tidy};
 
 // Whether no version exceeds the commits, and the places for objects (document 01: cards) that the machine lacks hold zeros. The loop is
 // not left early: so the compiler compares several at a time.

@@ -208,6 +208,10 @@ unfolding amounts kind
 told-amounts (Read b d) c asks_read = refl
 told-amounts (Write b d v) c asks_write = refl
 told-amounts (Commit b) c asks-commit = refl
+told-amounts (Release _ _ _) c a = elim a [ ]
+told-amounts (Begin _) c a = elim a [ ]
+told-amounts (GiveUp _) c a = elim a [ ]
+told-amounts (Finish _) c a = elim a [ ]
 
 module _ {o : ℕ} {w : World} {h : List Deed} (a : Agree o w h) where
   -- the list of jobs of core c changes

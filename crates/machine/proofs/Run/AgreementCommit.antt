@@ -11,7 +11,7 @@ use Rattle.one_core.specs.Life as Life
 use Rattle.machine.specs.Rule as Rule
 use Rattle.machine.specs.Rule.{World}
 use Rattle.machine.proofs.Case.{Lent-ok, not-ahead}
-use Rattle.machine.specs.Words.{Deed, commits, in_progress, births, born, any, wrote, crosses, attempt, strikes, struck}
+use Rattle.machine.specs.Words.{Deed, commits, in_progress, births, born, any, wrote, crosses, attempt, strikes}
 use Rattle.machine.specs.Serial.{effect, serial, version}
 use Rattle.machine.proofs.Run.Orderly.{Committing}
 use Rattle.machine.proofs.Run.View.{View, view, Over, view-other, view-commits, view-struck}

@@ -1,7 +1,7 @@
 -- Setbacks that no run has, whatever becomes of the transaction: told without a strike, twice for one strike, or after the end; and a
 -- read-only one that was told of every strike, set back at its commit. Where it is given up no commit reports them, and still no list with
 -- one keeps the claim.
-use Rattle.std.proofs.Common.{◌≡◌, ℕ, true, false, List, [], ◌∷◌, refl, arith}
+use Rattle.std.proofs.Common.{◌≡◌, ℕ, List, [], ◌∷◌, refl, arith}
 use Rattle.objset.specs.Objset.{some}
 use Rattle.one_core.specs.declared.Answer.TheVariants.{Begun, SetBack, Committed}
 use Rattle.machine.specs.Answers.{kind, values}

@@ -1,5 +1,5 @@
 -- A computed test that no attempt has more than L reads and writes, at any moment of a list.
-use Rattle.std.proofs.Common.{◌≡◌, ℕ, ◌<◌, ◌≤◌, Bool, true, false, cond, ◌&&◌, ltb, leb, List, [], ◌∷◌, ◌++◌, length, refl, ltb-true, leb-true}
+use Rattle.std.proofs.Common.{◌≡◌, ℕ, ◌<◌, ◌≤◌, Bool, true, ◌&&◌, ltb, leb, List, [], ◌∷◌, ◌++◌, length, refl, ltb-true, leb-true}
 use Rattle.objset.specs.Objset.{each}
 use Rattle.objset.proofs.Laws.{both_left, both_right, each-one}
 use Rattle.machine.specs.Words.{Deed, begins, reads, writes, waits, commits, told, gives, other, begins_on, in_progress, born, attempt}

@@ -33,9 +33,9 @@ last-call {w₀} {w} (then {es = es} {w = v} call a run f) e early p =
 run-through : {w₀ w : World} {es : List Event} (late early : List Event) → Run w₀ es w → es ≡ late ++ early
     → (v : World) × Run w₀ early v × Run v late w
 run-through {w = w} [] early run p = (w, rw p at run, fresh)
-run-through (x ∷ late) early run p =
+run-through {w₀ = w₀} {w = w} (x ∷ late) early run p =
     let l = last-call run x (late ++ early) p in
-    let r = run-through late early l.1 refl in
+    let r = run-through {w₀ = w₀} {w = l.0} late early l.1 refl in
     (r.0, r.1, then x.call x.answer r.2 l.2)
 
 -- ---- worked over the calls alone

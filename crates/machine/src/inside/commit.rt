@@ -10,11 +10,11 @@ ghost use Rattle.machine.specs.OneCore.{first_holding, struck_all};
 
 use crate::inside::calls::find_core;
 use crate::{Machine, Outcome};
+use objset::OBJECTS;
 use one_core::calls::NOBODY;
 use one_core::inside::calls::settle;
 use one_core::inside::transaction::{abort, holds_back, is_struck, read_only};
 use one_core::{CORES, Core};
-use objset::OBJECTS;
 
 // The core that core k's transaction waits for at its commit: of those that hold it back the one of smallest ticket; NOBODY where none does,
 // or where it is read-only. `below` is the ticket to beat. The loop goes over all cores: with a constant bound the compiler makes no copy of the record here.
