@@ -19,3 +19,4 @@ pub mod Binds
 pub mod Sound
 pub mod Run
 pub mod InsideLaws
+pub mod Typed
