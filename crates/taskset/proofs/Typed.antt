@@ -1,11 +1,11 @@
 -- What the types of the code say of a task set and of levels by value, whatever their fields hold. `Is` is what a function is told of a parameter that
 -- it owns.
-use mathlib.Core.Path.{◌≡◌, sym, ◌∙◌}
+use mathlib.Core.Path.{◌≡◌}
 use mathlib.Core.Bool.{Bool, true, false, cond}
-use mathlib.Core.List.{List, [], ◌∷◌, map}
+use mathlib.Core.List.{List, [], ◌∷◌}
 use Prim.Native.Nat.{ℕ, zero, suc, ◌<◌, ◌^◌}
 use lib.Dec.{leb}
-use lib.ListN.{length, length-map, take}
+use lib.ListN.{length, take}
 use mir.Val.{Val}
 use denote.Shadow.{shadow}
 use denote.Laws.{Is}
@@ -20,13 +20,13 @@ use Rattle.taskset.specs.contracts.TaskSet as TaskSetType
 use Rattle.taskset.specs.contracts.Levels as LevelsType
 
 pub tasks-long : (s : TaskSet) (vs : List Val) → Is (TaskSetType.the_field).row ((TaskSetType.the_field).into s) vs → length s.tasks ≡ most_tasks
-tasks-long s vs p = sym (length-map s.tasks _) ∙ p.1.1.0.1.0.1
+tasks-long s vs p = p.1.1.0.1.0.1
 
 -- the cards of each task are a set
-cards-word : (t : Task) (vs : List Val) → Is (TaskType.the_field).row ((TaskType.the_field).into t) vs → t.cards < 2 ^ 64
+cards-word : (t : Task) (vs : List Val) → Is TaskType.the_row t vs → t.cards < 2 ^ 64
 cards-word t vs p = p.1.1.1.1.1.0.1
 
-each_word : (ts : List Task) (us : List Val) → shadow (each (TaskType.the_field).row.Denot (TaskType.the_field).row.own_val (map (TaskType.the_field).into ts) us)
+each_word : (ts : List Task) (us : List Val) → shadow (each (TaskType.the_row).Denot (TaskType.the_row).own_val ts us)
     → Words (cards_of ts)
 each_word [] us p = tt
 each_word (t ∷ ts) [] p = absurd p
@@ -46,4 +46,4 @@ standing-words s vs p = go (leb s.count most_tasks) (words-first s.count s.tasks
     go false w = tt
 
 pub levels_long : (l : Levels) (vs : List Val) → Is (LevelsType.the_field).row ((LevelsType.the_field).into l) vs → length l.list ≡ most_tasks
-levels_long l vs p = sym (length-map l.list _) ∙ p.1.1.0.1.0.1
+levels_long l vs p = p.1.1.0.1.0.1

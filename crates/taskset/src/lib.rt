@@ -6,7 +6,6 @@
 // The public functions require nothing: what is no task set is refused 13.
 #![tactic(auto)]
 
-
 mod contention;
 mod preemption;
 mod tasks;
