@@ -1,4 +1,3 @@
--- The laws that callers cite, the published ones (`RoundTrip`, `Lender`), and the facts that they and the functions' proofs rest on.
 mod Reading
 mod Spelling
 pub mod Laws
@@ -6,4 +5,3 @@ pub mod RoundTrip
 mod Examples
 mod Again
 mod Part
-pub mod Lender

@@ -8,7 +8,8 @@
 ghost use Rattle.std.specs.Prelude.{◌≡◌, ◌≤◌, ◌++◌, length, drop};
 ghost use Rattle.decimal.specs.Spelling.{spelling, shown, printed};
 ghost use Rattle.decimal.specs.Reading.{no_leading_zero, read_as_number};
-ghost use Rattle.decimal.specs.Scratch.{keeps_from};
+ghost use Rattle.std.specs.Borrow.{sem};
+ghost use Rattle.decimal.specs.Scratch.{KeepsFrom};
 
 // What a field reads as.
 #[derive(Clone, Copy)]
@@ -67,7 +68,7 @@ fn no_leading_zero(field: &[u8]) -> bool
 pub fn print(n: u32, scratch: &mut [u8]) -> &mut [u8]
     ensures digits { result.now ≡ shown n scratch.old }
     ensures first { result.ref_ptr ≡ scratch.entry.ref_ptr }
-    ensures* rest { keeps_from 𝓛 (length result.now) scratch.entry ∗ ⊤ₛ }
+    ensures* rest { sem 𝓛 (KeepsFrom (length result.now) scratch.entry result) }
 {
     let k = put(n, scratch);
     &mut scratch[..k]
