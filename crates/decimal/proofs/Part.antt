@@ -5,7 +5,7 @@
 -- Assumes `Logic`.
 use mathlib.Core.Path.{refl, sym}
 use mathlib.Core.List.{List, [], ◌∷◌, ◌++◌}
-use Prim.Native.Nat.{ℕ, ◌+◌, ◌≤◌}
+use Prim.Native.Nat.{ℕ, ◌≤◌}
 use native.Mathlib.Omega.{arith}
 use native.Mathlib.Nat.{lt_of_le_of_lt, mul-le-mul_right}
 use lib.ListN.{length}
@@ -24,7 +24,6 @@ use denote.RattleType.{RattleType}
 use denote.Shadow.{pure_l}
 use denote.Memory.{mem}
 use denote.Array.{Array}
-use denote.Ref.{MutBor}
 use denote.Slice.{MutSlice, Room, slice_val, mut_slice_at}
 use denote.Follow.{follows}
 use denote.FollowSlice.{heres_id, slice_of}

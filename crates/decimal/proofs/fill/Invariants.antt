@@ -1,15 +1,10 @@
 -- `decimal::fill` meets its contract. The loop's invariant: the spelling of the rest ends at `i`, and with the bytes after `i` behind it it
 -- makes what is asked. The measure is `i`.
-use mathlib.Core.Path.{◌≡◌, refl, ap, ◌∙◌}
-use mathlib.Core.List.{List, [], ◌∷◌, ◌++◌, append_assoc}
-use Prim.Native.Nat.{ℕ, suc, ◌+◌, ◌-◌, ◌*◌, ◌/◌, ◌%◌, ◌^◌, ◌≤◌, ◌<◌}
-use native.Mathlib.Omega.{arith}
-use lib.ListN.{length, take, drop, set, length-set}
-use lib.Seq.{length-take-le, set_split, drop_at}
-use native.Mathlib.Numerals.{add-one}
+use mathlib.Core.Path.{◌≡◌}
+use mathlib.Core.List.{◌++◌}
+use Prim.Native.Nat.{◌+◌, ◌≤◌, ◌<◌}
+use lib.ListN.{length, drop}
 use Rattle.decimal.specs.Spelling.{spelling}
-use Rattle.decimal.proofs.Spelling.{by_digits, spelling-one, spelling-more, spelling-longer}
-use Rattle.decimal.proofs.Laws.{spelling-length}
 use Rattle.decimal.proofs.fill.Given as goal
 
 abbrev pub invariant-loop-i : goal.invariant-loop-i

@@ -6,7 +6,6 @@ use Prim.Native.Nat.{ℕ, ◌<◌}
 use native.Mathlib.Omega.{arith}
 use lib.Dec.{eqb}
 use lib.ListN.{length, get_or}
-use borrow.Author.Rules.{rules}
 use Rattle.decimal.specs.Reading.{no_leading_zero}
 use Rattle.decimal.proofs.no_leading_zero.Goals as goal
 

@@ -38,7 +38,7 @@ use denote.Triple.Spec.{Meets, triple_of}
 use denote.Triple.Statement.{Contract, Triple}
 use denote.Triple.Call.{calls_at}
 use denote.Triple.Clauses.{ensured, lasts}
-use denote.Triple.Table.{entered, framed}
+use denote.Triple.Table.{entered}
 use denote.Triple.Walked.{Stays, stay_none, stay_dropped, walk_of, Goes-none, Goes-spent_slice, Walks, ends_at, walked, walk_Meets}
 use denote.Exit.{yes, no}
 use denote.Signature.{mut_slice_of, plain}

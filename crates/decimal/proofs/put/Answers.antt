@@ -1,7 +1,6 @@
 -- `decimal::put` meets its contract: a scratch under 10 bytes shows no digit, and any other has the bytes that `fill` puts there, whose
 -- number is `places`'s answer.
 use native.Mathlib.Omega.{arith}
-use borrow.Author.Rules.{rules}
 use Rattle.decimal.specs.Spelling.{printed}
 use Rattle.decimal.proofs.Laws.{spelling-length, shown-short, shown-whole}
 use Rattle.decimal.proofs.put.Goals as goal

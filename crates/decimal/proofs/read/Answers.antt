@@ -1,16 +1,11 @@
 -- `decimal::read` meets its contract. The loop's invariant: the field has no leading zero, and its bytes before `i` are digits that stand
 -- for `n`. The measure is what is left of the field.
-use mathlib.Core.Path.{◌≡◌, refl, sym, ◌∙◌}
-use mathlib.Core.Logic.{⊎_elim}
-use mathlib.Core.Bool.{true}
+use mathlib.Core.Path.{refl, sym, ◌∙◌}
 use mathlib.Core.List.{List}
-use Prim.Native.Nat.{ℕ, ◌-◌, ◌≤◌}
+use Prim.Native.Nat.{ℕ}
 use native.Mathlib.Omega.{arith}
-use lib.ListN.{length}
-use borrow.Author.Rules.{rules}
-use borrow.Author.Tests.{ltb-true, ltb-false, not-true, not-false}
-use Rattle.decimal.specs.Reading.{largest, no_leading_zero}
-use Rattle.decimal.proofs.Reading.{no_front, ReadTo, below-digits, above-digits, past-largest, one_more, read_whole}
+use borrow.Author.Tests.{ltb-false, not-true, not-false}
+use Rattle.decimal.proofs.Reading.{no_front, below-digits, above-digits, past-largest, one_more, read_whole}
 use Rattle.decimal.proofs.read.Goals as goal
 use Rattle.decimal.proofs.read.Goals.{In-loop-i, then-b-lt48-via-then-b-lt48, then-b-lt48-via-else-b-lt48+then-b-gt57}
 
@@ -35,8 +30,8 @@ pub returns-then-b-lt48 : goal.returns-then-b-lt48
 returns-then-b-lt48 c =
     let at = c.loop-i in
     elim c.then-b-lt48.branch [
-      then-b-lt48-via-then-b-lt48 w ↦ sym (below-digits (F (goal.at.returns-then-b-lt48 c).In-loop-i) at.n at.i at.invariant.1 c.loop-i-test.true w.if-b-lt48.true)
-    | then-b-lt48-via-else-b-lt48+then-b-gt57 w ↦ sym (above-digits (F (goal.at.returns-then-b-lt48 c).In-loop-i) at.n at.i at.invariant.1 c.loop-i-test.true w.if-b-gt57.true)
+      | then-b-lt48-via-then-b-lt48 w ↦ sym (below-digits (F (goal.at.returns-then-b-lt48 c).In-loop-i) at.n at.i at.invariant.1 c.loop-i-test.true w.if-b-lt48.true)
+      | then-b-lt48-via-else-b-lt48+then-b-gt57 w ↦ sym (above-digits (F (goal.at.returns-then-b-lt48 c).In-loop-i) at.n at.i at.invariant.1 c.loop-i-test.true w.if-b-gt57.true)
     ]
 
 pub overflow_mul-n : goal.overflow_mul-n

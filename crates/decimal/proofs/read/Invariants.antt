@@ -1,16 +1,11 @@
 -- `decimal::read` meets its contract. The loop's invariant: the field has no leading zero, and its bytes before `i` are digits that stand
 -- for `n`. The measure is what is left of the field.
-use mathlib.Core.Path.{◌≡◌, refl, sym, ◌∙◌}
-use mathlib.Core.Logic.{⊎_elim}
+use mathlib.Core.Path.{◌≡◌}
 use mathlib.Core.Bool.{true}
-use mathlib.Core.List.{List}
-use Prim.Native.Nat.{ℕ, ◌-◌, ◌≤◌}
-use native.Mathlib.Omega.{arith}
+use Prim.Native.Nat.{◌-◌, ◌≤◌}
 use lib.ListN.{length}
-use borrow.Author.Rules.{rules}
-use borrow.Author.Tests.{ltb-true, ltb-false, not-true, not-false}
 use Rattle.decimal.specs.Reading.{largest, no_leading_zero}
-use Rattle.decimal.proofs.Reading.{no_front, ReadTo, below-digits, above-digits, past-largest, one_more, read_whole}
+use Rattle.decimal.proofs.Reading.{ReadTo}
 use Rattle.decimal.proofs.read.Given as goal
 
 abbrev pub invariant-loop-i : goal.invariant-loop-i
