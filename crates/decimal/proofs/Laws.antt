@@ -1,7 +1,7 @@
 -- What a caller knows of a number's spelling: it has 1 to 10 bytes, and a scratch of 10 bytes shows it.
 use mathlib.Core.Path.{◌≡◌}
 use mathlib.Core.List.{List, []}
-use Prim.Native.Nat.{ℕ, zero, suc, ◌-◌, ◌/◌, ◌≤◌, ◌<◌}
+use Prim.Native.Nat.{ℕ, zero, suc, ◌/◌, ◌≤◌, ◌<◌}
 use native.Mathlib.Omega.{arith}
 use lib.ListN.{length, length-append}
 use borrow.Author.Tests.{lt-ltb, le-ltb}
@@ -34,3 +34,10 @@ shown-whole n scratch h = rw (le-ltb (length scratch) 10 h)
 pub shown-short : (n : ℕ) (scratch : List ℕ) → length scratch < 10 → shown n scratch ≡ []
 unfolding shown
 shown-short n scratch h = rw (lt-ltb (length scratch) 10 h)
+
+-- what is shown has room in the scratch
+pub shown-fits : (n : ℕ) (scratch : List ℕ) → length (shown n scratch) ≤ length scratch
+shown-fits n scratch =
+    by_digits (length scratch)
+    (λ short. rw (shown-short n scratch short) (omega arith))
+    (λ long. rw (shown-whole n scratch long) (omega (arith, spelling-length n)))

@@ -8,7 +8,8 @@
 ghost use Rattle.std.specs.Prelude.{◌≡◌, ◌≤◌, ◌++◌, length, drop};
 ghost use Rattle.decimal.specs.Spelling.{spelling, shown, printed};
 ghost use Rattle.decimal.specs.Reading.{no_leading_zero, read_as_number};
-ghost use Rattle.decimal.specs.Scratch.{keeps_from};
+ghost use Rattle.std.specs.Borrow.{sem};
+ghost use Rattle.decimal.specs.Scratch.{KeepsFrom};
 
 // What a field reads as.
 #[derive(Clone, Copy)]
@@ -60,14 +61,12 @@ fn no_leading_zero(field: &[u8]) -> bool
 // where the scratch does. The bytes after the part keep what they held. A scratch under 10 bytes keeps
 // its bytes, and the part is empty.
 //
-// The scratch is lent for as long as the part is in use. So `rest` speaks of the scratch's last value:
-// whoever lent it finds, from the part's end on, the bytes that it lent (`proofs/Lender.antt`). That is
-// a resource of the caller's proof and no plain fact: the borrow checker passes over it (`∗ ⊤ₛ`), so a
-// caller that it covers lends a scratch of its own, and takes the digits from the part.
+// The scratch is lent for as long as the part is in use. So `rest` speaks of the scratch's last value: what the caller leaves in the
+// part, and from the part's end on the bytes that were lent. `proofs/Lender.antt` has what whoever lent it finds.
 pub fn print(n: u32, scratch: &mut [u8]) -> &mut [u8]
     ensures digits { result.now ≡ shown n scratch.old }
     ensures first { result.ref_ptr ≡ scratch.entry.ref_ptr }
-    ensures* rest { keeps_from 𝓛 (length result.now) scratch.entry ∗ ⊤ₛ }
+    ensures* rest { sem 𝓛 (KeepsFrom (length result.now) scratch.entry result) }
 {
     let k = put(n, scratch);
     &mut scratch[..k]

@@ -4,10 +4,10 @@
 -- All that the proof knows of `put` is that it meets its contract.
 use mathlib.Core.Path.{◌≡◌, refl, sym, ap, subst}
 use Prim.Native.Nat.{ℕ, ◌<◌, ◌^◌}
-use mathlib.Core.List.{[], ◌∷◌, List}
+use mathlib.Core.List.{[], ◌∷◌, List, ◌++◌}
 use lib.ListN.{length, drop as drop-list}
 use seplogic.Ra.Ura.{Ura}
-use seplogic.Ra.TreeShare.{full_share}
+use base.Fraction.{full_share}
 use mir.Syntax.{named, w32, w64, ty_int}
 use mir.Val.{Val, vint}
 use base.Logic.{SProp, ent, sep, emp, id⊢, via, fst∗, emp∗, mono_l}
@@ -29,24 +29,25 @@ use denote.Memory.{mem}
 use denote.Plain.{uint_Makes, uint_vals, uint_Tells, uint_Lawful}
 use denote.Builtin.{u8, u32, usize}
 use denote.Ref.{MutBor}
-use denote.Slice.{slice_val, mut_slice_vals, mut_slice_Tells, MutSlice, Room, heres}
+use denote.Slice.{slice_val, mut_slice_vals, mut_slice_Tells, MutSlice, Room}
+use denote.Array.{Array}
+use denote.Follow.{follows}
 use denote.Steps.{only, owned, peeks, heard, nothing}
 use denote.Triple.Entry.{on_entry}
 use denote.Triple.Spec.{Meets, triple_of}
 use denote.Triple.Statement.{Contract, Triple}
 use denote.Triple.Call.{calls_at}
 use denote.Triple.Clauses.{ensured, lasts}
-use denote.Triple.Table.{entered, cited}
+use denote.Triple.Table.{entered}
 use denote.Triple.Walked.{Stays, stay_none, stay_dropped, walk_of, Goes-none, Goes-spent_slice, Walks, ends_at, walked, walk_Meets}
 use denote.Exit.{yes, no}
 use denote.Signature.{mut_slice_of, plain}
 use Rattle.decimal.specs.Spelling.{shown, printed}
 use Rattle.decimal.proofs.Again.{LentAgain, lends_again, comes_back}
-use Rattle.decimal.proofs.Part.{Ends, part_out}
+use Rattle.decimal.proofs.Part.{part_out}
 use Rattle.decimal.specs.contracts.put as put
-use Rattle.decimal.proofs.put.Symbol as put-def
-use Rattle.decimal.proofs.put.Symbol.{name as #decimal·put}
-use Rattle.decimal.proofs.put.Met as put-thm
+use Rattle.decimal.specs.contracts.put.Key.{name as #decimal·put}
+use Rattle.decimal.proofs.put.Met.{met}
 use Rattle.decimal.specs.contracts.print.Key.{name as #decimal·print}
 use Rattle.decimal.specs.contracts.print as print
 use Rattle.decimal.proofs.print.Statement as stated
@@ -101,22 +102,25 @@ module _ {M : Type 1} {𝓤 : Ura M} (𝓛 : Logic 𝓤) (memory : Memory → SP
   abbrev back : List ℕ
   back = drop-list (length front) ys
 
-  handed : (γ' : GName) → ent 𝓤 (sep 𝓤 (sem 𝓛 ((MutSlice (named 0) κ u8).own_val (x γ' front) (slice_val (b, o) (length front) ∷ []))) (sep 𝓤 (A.lft κ q) (sem 𝓛 (Ends (mem u8) γ (length front) (heres u8 back))))) (Post (slice_val (b, o) (length front)))
+  abbrev ends_as : List ℕ → List ℕ
+  ends_as ws = ws ++ back
+
+  handed : (γ' : GName) → ent 𝓤 (sep 𝓤 (sem 𝓛 ((MutSlice (named 0) κ u8).own_val (x γ' front) (slice_val (b, o) (length front) ∷ []))) (sep 𝓤 (A.lft κ q) (sem 𝓛 (follows (Array u8 0) (Array u8 0) γ γ' ends_as)))) (Post (slice_val (b, o) (length front)))
   handed γ' =
-      qed 𝓛 (‵ ((MutSlice (named 0) κ u8).own_val (x γ' front) (slice_val (b, o) (length front) ∷ [])) ∷ ‵ (flft κ q) ∷ ‵ (Ends (mem u8) γ (length front) (heres u8 back)) ∷ []) ∵
+      qed 𝓛 (‵ ((MutSlice (named 0) κ u8).own_val (x γ' front) (slice_val (b, o) (length front) ∷ [])) ∷ ‵ (flft κ q) ∷ ‵ (follows (Array u8 0) (Array u8 0) γ γ' ends_as) ∷ []) ∵
       suffices ! _ (ends_at 𝓛 print.ended stayed (print.clauses 𝓛 memory run) (((κ, tt), (q, tt), tt, a, vals), tt) (slice_val (b, o) (length front)) (x γ' front) (tt, (tt, tt)) (tt, (tt, tt))) $
       nothing ! $ move ! (2 ∷ 0 ∷ []) $ join ! $
       -- [the token; what the part owns; what the scratch ends as]
       nothing ! $ nothing ! $ fjoin ! $ owned ! u32 (Is u32) (uint_Makes 𝓛 w32) n _ (refl, n-fits) $ fjoin ! $ move ! (0 ∷ 2 ∷ []) $ join ! $ move ! (1 ∷ 0 ∷ []) $ join ! $
       -- [what is had at exit; what the scratch ends as]
-      frame ! $ first_says ! refl $ first_says ! refl $ nothing ! $ move ! (1 ∷ 0 ∷ []) $ done !
+      frame ! $ first_says ! refl $ first_says ! refl $ done !
 
   exits : (k : ℕ) (zs : List ℕ) → k ≡ length (shown n ys) → zs ≡ printed n ys → ent 𝓤 (sep 𝓤 (A.lft κ q) (sem 𝓛 ((MutSlice (named 0) κ u8).own_val (x γ zs) (s ∷ [])))) (Post (slice_val (b, o) k))
   unfolding printed
   exits k zs count bytes = subst (λ (j : ℕ). ent 𝓤 (sep 𝓤 (A.lft κ q) (sem 𝓛 ((MutSlice (named 0) κ u8).own_val (x γ zs) (s ∷ [])))) (Post (slice_val (b, o) j))) (sym count) (
       qed 𝓛 (‵ (flft κ q) ∷ ‵ ((MutSlice (named 0) κ u8).own_val (x γ zs) (s ∷ [])) ∷ []) ∵ updating ! $ rewrite ! 1 (λ (l : List ℕ). ‵ ((MutSlice (named 0) κ u8).own_val (x γ l) (s ∷ []))) bytes refl $ move ! (1 ∷ 0 ∷ []) $
-      use2 𝓛 (later (some (λ (γ' : GName). ‵ ((MutSlice (named 0) κ u8).own_val (x γ' front) (slice_val (b, o) (length front) ∷ [])) ⊛ ‵ (flft κ q) ⊛ ‵ (Ends (mem u8) γ (length front) (heres u8 back)))))
-      (part_out 𝓛 u8 κ b o γ (named 0) q front back (length ys)) $ await ! tt $ pick ! (λ γ'. by ! (handed γ')))
+      use2 𝓛 (later (some (λ (γ' : GName). ‵ ((MutSlice (named 0) κ u8).own_val (x γ' front) (slice_val (b, o) (length front) ∷ [])) ⊛ ‵ (flft κ q) ⊛ ‵ (follows (Array u8 0) (Array u8 0) γ γ' ends_as))))
+      (part_out 𝓛 u8 (named 0) κ q b o γ front back (length ys)) $ await ! tt $ pick ! (λ γ'. by ! (handed γ')))
 
   module _ (C : Calls 𝓤 H) (Λ : Loops 𝓤 H) (fm : FmC 𝓤 H 𝓛.laws C) (known : Triple 𝓤 (C #decimal·put) (Put 𝓛 memory run)) where
     walk : Room u8 (length ys) → ent 𝓤 (on_entry 𝓛 print.signature (κ, tt) (q, tt) a vals) (WpFn 𝓤 H C Λ code.function (vint w32 n ∷ s ∷ []) Post)
@@ -136,7 +140,7 @@ module _ {M : Type 1} {𝓤 : Ura M} (𝓛 : Logic 𝓤) (memory : Memory → SP
         use1 𝓛 (later (some (λ (k : ℕ). ((‵ (flft (ν ∷ []) full_share) ⊛ ‵ ftrue) ⊛ ‵ (usize.own_val k (w ∷ []))) ⊛ raw (ensured 𝓛 put.ended (put.clauses 𝓛 memory run) (ν ∷ [], tt) (n, (x δ ys, tt)) tt k)))) (id⊢ 𝓤 _) $ await ! tt $ pick ! (λ k.
         -- what `put` ensures, at some last bytes
         split ! $ move ! (1 ∷ []) $ use1 𝓛 (some (λ (zs : Unit {0} × (List ℕ × Unit {0})). ‵ (lasts put.ended (ν ∷ [], tt) (n, (x δ ys, tt)) zs) ⊛ (raw (fact 𝓤 _) ⊛ raw (fact 𝓤 _)))) (id⊢ 𝓤 _) $ pick ! (λ zs.
-        split ! $ move ! (1 ∷ []) $ split ! $ heard ! _ (λ count. heard ! _ (λ bytes. fsplit ! $ drop ! $ fsplit ! $ fsplit ! $ move ! (1 ∷ []) $ feq_l ! (λ l.
+        split ! $ move ! (1 ∷ []) $ split ! $ heard ! _ (λ count. heard ! _ (λ bytes. fsplit ! $ drop ! $ fsplit ! $ fsplit ! $ fsplit ! $ move ! (1 ∷ []) $ feq_l ! (λ l. move ! (1 ∷ []) $ drop ! $
         move ! (2 ∷ []) $ split ! $ move ! (1 ∷ []) $ peeks ! usize (Is usize) (shows 𝓛 usize) k (w ∷ []) (λ is.
         land ! (from ! (stop !)) (init ! 14 refl ((uint_Lawful 𝓛 w64).typed k _ is).0) $ rewrite ! 14 (λ (u : Val). ‵ (fat full_share (ty_int w64) l₃ 0 u)) (ap only is.0) refl $
         -- the lifetime is ended, and the scratch comes back at those bytes
@@ -164,10 +168,9 @@ print-meets {𝓤 = 𝓤} 𝓛 memory run 𝓣 known =
     walk_Meets 𝓛 print.ended stayed (Goes-none 𝓛 1 (λ _. u32) yes (λ κs x f. refl), (Goes-spent_slice 𝓛 1 (0 ∷ []) tt (plain (λ _. u8)), tt)) (print.clauses 𝓛 memory run)
     (WpFn 𝓤 𝓛.H 𝓣.C 𝓣.Λ code.function) (WpFn-mono 𝓤 𝓛.H 𝓛.laws 𝓣 code.function) (print-walks 𝓛 memory run 𝓣.C 𝓣.Λ (fm_of 𝓤 𝓛.H 𝓛.laws 𝓣) known)
 
-pub print-spec : {M : Type 1} → stated.statement M
-unfolding code.routine tables_of
-print-spec 𝓤 𝓛 𝓜 𝓡 =
-    entered 𝓤 𝓛.H (triple_of 𝓛 print.signature (print.spec 𝓛 𝓜.mem 𝓡.run))
-    (tables 𝓤 𝓛.H 𝓜 𝓡 code.env).C (tables 𝓤 𝓛.H 𝓜 𝓡 code.env).Λ #decimal·print code.function (code.unfolded 𝓤 𝓛.H 𝓜 𝓡)
-    (print-meets 𝓛 𝓜.mem 𝓡.run (tables_of 𝓤 𝓛.H 𝓜 (tables 𝓤 𝓛.H 𝓜 𝓡 code.env))
-    (cited 𝓤 𝓛.H (Put 𝓛 𝓜.mem 𝓡.run) 𝓜 𝓡 code.env #decimal·put put-def.routine code.calls-decimal::put (put-thm.met 𝓤 𝓛 𝓜 𝓡)))
+pub print_spec : {M : Type 1} → stated.statement M
+unfolding tables_of
+print_spec 𝓤 𝓛 𝓜 𝓡 wired =
+    let 𝓣 = tables 𝓤 𝓛.H 𝓜 𝓡 𝓡.env in
+    entered 𝓤 𝓛.H (triple_of 𝓛 print.signature (print.spec 𝓛 𝓜.mem 𝓡.returns)) 𝓣.C 𝓣.Λ #decimal·print code.function (code.unfolded 𝓤 𝓛.H 𝓜 𝓡 wired)
+    (print-meets 𝓛 𝓜.mem 𝓡.returns (tables_of 𝓤 𝓛.H 𝓜 𝓣) (met 𝓤 𝓛 𝓜 𝓡 (code.calls-decimal::put 𝓡.env wired)))

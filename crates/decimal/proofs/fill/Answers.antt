@@ -10,8 +10,7 @@ use native.Mathlib.Numerals.{add-one}
 use Rattle.decimal.specs.Spelling.{spelling}
 use Rattle.decimal.proofs.Spelling.{by_digits, spelling-one, spelling-more, spelling-longer}
 use Rattle.decimal.proofs.Laws.{spelling-length}
-use Rattle.decimal.proofs.fill.Statement.{statement}
-use Rattle.decimal.proofs.fill.Tie as tie
+use Rattle.decimal.proofs.fill.Goals as goal
 
 -- what stands at i and after it, once d is stored there
 dropped : (s : List ℕ) (i d : ℕ) → i < length s → drop i (set s i d) ≡ d ∷ drop (i + 1) s
@@ -29,48 +28,40 @@ alone n h e = by_digits n (λ l. l) (λ m. absurd (omega (arith, e, spelling-lon
 several : (n : ℕ) → 1 < length (spelling n) → 10 ≤ n
 several n e = by_digits n (λ l. absurd (omega (arith, e, ap length (spelling-one n l)))) (λ m. m)
 
-abbrev invariant-loop : tie.invariant-loop
-invariant-loop n k scratch₀ rest₀ i₀ scratch rest i =
-    (length (spelling rest) ≡ i + 1) × (spelling rest ++ drop (i + 1) scratch ≡ spelling n ++ drop k scratch₀)
-    × (length scratch ≡ length scratch₀) × (i < length scratch) × (rest ≤ n)
+pub overflow_sub-i : goal.overflow_sub-i
+overflow_sub-i c = omega (arith, spelling-length c.args.n)
 
-abbrev decreases-loop : tie.decreases-loop
-decreases-loop n k scratch₀ rest₀ i₀ scratch rest i = i
-
-sub-i : tie.Need-overflow-sub-i invariant-loop decreases-loop
-sub-i c = omega (arith, spelling-length c.args.n)
-
-loop-holds : tie.Need-loop-init invariant-loop decreases-loop
-loop-holds c =
+pub loop-i-init : goal.loop-i-init
+loop-i-init c =
     let n = c.args.n in
     let k = c.args.k in
     let last : k - 1 + 1 ≡ k = omega (arith, spelling-length n) in
     (omega arith, rw last, refl, omega (arith, spelling-length n), omega arith)
 
-mul-scratch : tie.Need-overflow-mul-scratch invariant-loop decreases-loop
-mul-scratch c = omega arith
+pub overflow_mul-scratch : goal.overflow_mul-scratch
+overflow_mul-scratch c = omega arith
 
-sub-scratch : tie.Need-overflow-sub-scratch invariant-loop decreases-loop
-sub-scratch c = omega arith
+pub overflow_sub-scratch : goal.overflow_sub-scratch
+overflow_sub-scratch c = omega arith
 
-cast-scratch : tie.Need-overflow-cast-scratch invariant-loop decreases-loop
-cast-scratch c = omega arith
+pub overflow_cast-scratch : goal.overflow_cast-scratch
+overflow_cast-scratch c = omega arith
 
-add-scratch : tie.Need-overflow-add-scratch invariant-loop decreases-loop
-add-scratch c = omega arith
+pub overflow_add-scratch : goal.overflow_add-scratch
+overflow_add-scratch c = omega arith
 
-slice-write-scratch : tie.Need-slice-write-scratch invariant-loop decreases-loop
-slice-write-scratch c = omega arith
+pub bounds-scratch-i : goal.bounds-scratch-i
+bounds-scratch-i c = omega arith
 
-sub-i-2 : tie.Need-overflow-sub-i-2 invariant-loop decreases-loop
-sub-i-2 c = omega arith
+pub overflow_sub-i-in-loop-i : goal.overflow_sub-i-in-loop-i
+overflow_sub-i-in-loop-i c = omega arith
 
-loop-less : tie.Need-loop-smaller invariant-loop decreases-loop
-loop-less c = omega arith
+pub loop-i-smaller : goal.loop-i-smaller
+loop-i-smaller c = omega arith
 
-loop-again : tie.Need-loop-preserved invariant-loop decreases-loop
-loop-again c =
-    let at = c.before.loop in
+pub loop-i-preserved : goal.loop-i-preserved
+loop-i-preserved c =
+    let at = c.loop-i in
     let rest = at.rest in
     let within : at.i < length at.scratch = at.invariant.3 in
     let many = several rest (omega arith) in
@@ -85,43 +76,21 @@ loop-again c =
       omega arith,
     )
 
-cast-scratch-2 : tie.Need-overflow-cast-scratch-2 invariant-loop decreases-loop
-cast-scratch-2 c = omega (arith, alone c.before.loop.rest (omega arith) (omega arith))
+pub overflow_cast-scratch-2 : goal.overflow_cast-scratch-2
+overflow_cast-scratch-2 c = omega (arith, alone c.loop-i.rest (omega arith) (omega arith))
 
-add-scratch-2 : tie.Need-overflow-add-scratch-2 invariant-loop decreases-loop
-add-scratch-2 c = omega (arith, alone c.before.loop.rest (omega arith) (omega arith))
+pub overflow_add-scratch-2 : goal.overflow_add-scratch-2
+overflow_add-scratch-2 c = omega (arith, alone c.loop-i.rest (omega arith) (omega arith))
 
-slice-write-scratch-2 : tie.Need-slice-write-scratch-2 invariant-loop decreases-loop
-slice-write-scratch-2 c = omega arith
+pub bounds-scratch-0 : goal.bounds-scratch-0
+bounds-scratch-0 c = omega arith
 
-same_length : tie.Need-same-length invariant-loop decreases-loop
-same_length c = simp length-set c.before.loop.invariant.2
+pub shape_of-scratch : goal.shape_of-scratch
+shape_of-scratch c = simp length-set c.loop-i.invariant.2
 
-returns : tie.Need-returns invariant-loop decreases-loop
+pub returns : goal.returns
 returns c =
-    let at = c.before.loop in
+    let at = c.loop-i in
     let one = spelling-one at.rest (alone at.rest (omega arith) (omega arith)) in
     let first : at.i ≡ 0 = omega arith in
     dropped at.scratch 0 (48 + at.rest) (omega arith) ∙ rw (one, first) at at.invariant.1
-
-pub fill_spec : {M : Type 1} → statement M
-fill_spec =
-    tie.close
-    (tie.spec
-    invariant-loop
-    decreases-loop
-    sub-i
-    loop-holds
-    mul-scratch
-    sub-scratch
-    cast-scratch
-    add-scratch
-    slice-write-scratch
-    sub-i-2
-    loop-less
-    loop-again
-    cast-scratch-2
-    add-scratch-2
-    slice-write-scratch-2
-    same_length
-    returns)

@@ -6,10 +6,8 @@ use Prim.Native.Nat.{ℕ, ◌<◌}
 use native.Mathlib.Omega.{arith}
 use lib.Dec.{eqb}
 use lib.ListN.{length, get_or}
-use borrow.Author.Rules.{rules}
 use Rattle.decimal.specs.Reading.{no_leading_zero}
-use Rattle.decimal.proofs.no_leading_zero.Statement.{statement}
-use Rattle.decimal.proofs.no_leading_zero.Tie as tie
+use Rattle.decimal.proofs.no_leading_zero.Goals as goal
 
 no_byte : (field : List ℕ) → length field ≡ 0 → no_leading_zero field ≡ false
 unfolding no_leading_zero
@@ -28,17 +26,11 @@ more_bytes [] h = absurd (omega arith)
 more_bytes (b ∷ []) h = absurd (omega arith)
 more_bytes (b ∷ c ∷ bs) h = refl
 
-returns : tie.Need-returns
-returns c = sym (no_byte c.before.args.field.now (omega arith))
+pub returns-then-field-eq0 : goal.returns-then-field-eq0
+returns-then-field-eq0 c = sym (no_byte c.args.field.now (omega arith))
 
-returns-2 : tie.Need-returns-2
-returns-2 c = sym (one_byte c.before.before.args.field.now (omega arith))
+pub returns-then-field-eq1 : goal.returns-then-field-eq1
+returns-then-field-eq1 c = sym (one_byte c.args.field.now (omega arith))
 
-shared-slice-read-result : tie.Need-shared-slice-read-result
-shared-slice-read-result c = search rules
-
-returns-3 : tie.Need-returns-3
-returns-3 c = sym (more_bytes c.before.before.before.args.field.now (omega arith))
-
-pub no-leading-zero-spec : {M : Type 1} → statement M
-no-leading-zero-spec = tie.close (tie.spec returns returns-2 shared-slice-read-result returns-3)
+pub returns : goal.returns
+returns c = sym (more_bytes c.args.field.now (omega arith))
