@@ -1,6 +1,6 @@
 -- What a caller knows of a listing: a line has at most 32 bytes, what putting a text leaves, and that texts put one after another are put as
 -- one.
-use Rattle.std.proofs.Common.{◌≡◌, ℕ, ◌+◌, ◌-◌, ◌<◌, ◌≤◌, List, [], ◌++◌, length, take, drop, sym, refl, ap, ◌∙◌, arith, length-append, length-drop, length-take, drop-drop, le-ltb, lt-ltb, le-leb}
+use Rattle.std.proofs.Common.{◌≡◌, ℕ, ◌+◌, ◌<◌, ◌≤◌, List, [], ◌++◌, length, take, drop, sym, refl, ap, ◌∙◌, arith, length-append, length-drop, length-take, drop-drop, le-ltb, lt-ltb, le-leb}
 use lib.Seq.{take-append_seam, drop-append-add}
 use borrow.Author.Tests.{lt-leb}
 use Rattle.decimal.proofs.Laws.{spelling-length}
