@@ -7,59 +7,79 @@
 ghost use Rattle.std.specs.Prelude.{◌≡◌, ◌≤◌, length};
 ghost use Rattle.runner.specs.Kept.{ReadingFits};
 
-use libc::{STDERR_FILENO, STDIN_FILENO, STDOUT_FILENO};
 use runner::{Reading, inside};
+use std::env::{Env, FillError};
+use std::io;
+use std::io::Read;
 
-fn main() {
-    if os::arg_count() > 1 {
-        io::write_all(STDERR_FILENO, b"cards: usage: cards < SCRIPT > LISTING\n");
+// How many bytes of the listing are held: as many as a chunk of the script may need.
+const ROOM: usize = 65536;
+
+fn main(rt: HostRuntime) {
+    if has_argument(&rt) {
+        let _ = rt.eprintln("cards: usage: cards < SCRIPT > LISTING");
     } else {
-        list();
+        list(&rt);
+    }
+}
+
+// Whether the program was given an argument.
+fn has_argument(rt: &impl Env) -> bool {
+    let mut text = [0u8; 1];
+    match rt.arg(1, &mut text) {
+        Err(FillError::NotPresent) => false,
+        _ => true,
     }
 }
 
 // Lists what the script on standard input is answered.
-fn list() {
+fn list(rt: &(impl Input + Print + Eprint)) {
     let mut committed = [0u32; runner::COMMITTED_WORDS];
     let mut pending = [0u32; runner::PENDING_WORDS];
-    let mut output = io::large_buffer();
+    let mut output = [0u8; ROOM];
     let k = listing::put_heading(&mut output);
-    if written(&output[..k]) {
+    if written(rt, &output[..k]) {
         let reading = Reading::start();
-        run(reading, &mut committed, &mut pending, &mut output);
+        run(rt, reading, &mut committed, &mut pending, &mut output);
     }
 }
 
 // Runs the script from here to its end, or until nothing more is read. A proved loop has to end, and nothing says that the input
 // does; so the loop counts its turns down, from a number that no run uses up.
-fn run(first: Reading, committed: &mut [u32], pending: &mut [u32], output: &mut [u8])
+fn run(
+    rt: &(impl Input + Print + Eprint),
+    first: Reading,
+    committed: &mut [u32],
+    pending: &mut [u32],
+    output: &mut [u8],
+)
     requires { ReadingFits first committed.old pending.old × (65536 ≤ length output.old) }
 {
+    let mut reader = rt.reader();
     let mut input = [0u8; 2048];
     let mut reading = first;
     let mut turns = u64::MAX;
     while 0 < turns {
         turns -= 1;
-        let got = libc::read(STDIN_FILENO, &mut input);
-        if got < 0 {
-            os::fail(b"cards: read");
-            return;
-        }
-        let n = io::count(got, &input);
-        if n == 0 {
-            turns = 0;
-        } else {
-            let fed = inside::feed(reading, &input[..n], committed, pending, output);
-            reading = fed.reading;
-            let k = fed.written;
-            if !written(&output[..k]) {
+        match reader.read(&mut input) {
+            Ok(0) => turns = 0,
+            Ok(n) => {
+                let fed = inside::feed(reading, &input[..n], committed, pending, output);
+                reading = fed.reading;
+                let k = fed.written;
+                if !written(rt, &output[..k]) {
+                    return;
+                }
+                turns = turns_left(reading.going, turns);
+            }
+            Err(error) => {
+                fail(rt, "read", error);
                 return;
             }
-            turns = turns_left(reading.going, turns);
         }
     }
     let k = inside::finish(reading, committed, pending, output).written;
-    written(&output[..k]);
+    written(rt, &output[..k]);
 }
 
 // The turns that are left: none once nothing more is read.
@@ -70,10 +90,17 @@ fn turns_left(going: bool, turns: u64) -> u64
 }
 
 // Writes all of the text to standard output, and answers whether it could.
-fn written(text: &[u8]) -> bool {
-    let is_written = io::write_all(STDOUT_FILENO, text);
-    if !is_written {
-        os::fail(b"cards: write");
+fn written(rt: &(impl Print + Eprint), text: &[u8]) -> bool {
+    match rt.write_all(text) {
+        Ok(()) => true,
+        Err(error) => {
+            fail(rt, "write", error);
+            false
+        }
     }
-    is_written
+}
+
+// Says on standard error what failed.
+fn fail(rt: &impl Eprint, what: &str, error: io::Error) {
+    let _ = eprintln!(rt; "cards: {what}: {error}");
 }

@@ -5,9 +5,9 @@
 
 ghost use Rattle.std.specs.Prelude.{◌+◌, ◌≤◌, ◌<◌, length};
 
-use libc::STDOUT_FILENO;
 use machine::Machine;
 use runner::Reading;
+use std::io;
 
 // How many bytes are fed at a time.
 const PIECE: usize = 7;
@@ -20,28 +20,35 @@ const SHORT_PENDING: usize = runner::PENDING_WORDS - 1;
 // The text that they may need.
 const ROOM: usize = PIECE * runner::LINE_ROOM;
 
-fn main() {
+fn main(rt: HostRuntime) -> io::Result<()> {
     let mut committed = [7u32; runner::COMMITTED_WORDS];
     let mut pending = [7u32; runner::PENDING_WORDS];
     let mut text = [0u8; ROOM];
-    write(b"line answer value\n");
+    write(&rt, b"line answer value\n")?;
     let script =
         b"call core card value\nsetup 2 2 -\nrelease 0 7 100\nrelease 1 8 90\nbegin 0 - -\nbegin 1 - -\nread 1 0 -\nwrite 0 0 30\nwrite 1 1 4\ncommit 1 - -\ncommit 0 - -\ncommit 1 - -\nread 1 0 -\ncommit 1 - -";
-    let reading = feed_all(script, &mut committed, &mut pending, &mut text);
-    refused(reading);
-    end(reading, &mut committed, &mut pending, &mut text);
+    let reading = feed_all(&rt, script, &mut committed, &mut pending, &mut text)?;
+    refused(&rt, reading)?;
+    end(&rt, reading, &mut committed, &mut pending, &mut text)?;
+    Ok(())
 }
 
 // Feeds the whole script and prints what each piece adds; the reading after it.
-fn feed_all(script: &[u8], committed: &mut [u32], pending: &mut [u32], text: &mut [u8]) -> Reading {
+fn feed_all(
+    rt: &impl Print,
+    script: &[u8],
+    committed: &mut [u32],
+    pending: &mut [u32],
+    text: &mut [u8],
+) -> io::Result<Reading> {
     let mut reading = Reading::start();
     let mut at = 0;
     while at < script.len() {
         let next = piece_end(script.len(), at);
-        reading = feed(reading, &script[at..next], committed, pending, text);
+        reading = feed(rt, reading, &script[at..next], committed, pending, text)?;
         at = next;
     }
-    reading
+    Ok(reading)
 }
 
 // Where the piece that begins at `at` ends.
@@ -58,72 +65,87 @@ fn piece_end(length: usize, at: usize) -> usize
 
 // Feeds one piece; prints what it adds, or its refusal.
 fn feed(
+    rt: &impl Print,
     reading: Reading,
     piece: &[u8],
     committed: &mut [u32],
     pending: &mut [u32],
     text: &mut [u8],
-) -> Reading {
+) -> io::Result<Reading> {
     let taken = reading.feed(piece, committed, pending, text);
-    show(taken.refusal, taken.written, text);
-    taken.reading
+    show(rt, taken.refusal, taken.written, text)?;
+    Ok(taken.reading)
 }
 
 // The script's end.
-fn end(reading: Reading, committed: &mut [u32], pending: &mut [u32], text: &mut [u8]) -> Reading {
+fn end(
+    rt: &impl Print,
+    reading: Reading,
+    committed: &mut [u32],
+    pending: &mut [u32],
+    text: &mut [u8],
+) -> io::Result<Reading> {
     let taken = reading.finish(committed, pending, text);
-    show(taken.refusal, taken.written, text);
-    taken.reading
+    show(rt, taken.refusal, taken.written, text)?;
+    Ok(taken.reading)
 }
 
 // What is not taken: a wrong table, too little room, and readings that no run leaves.
-fn refused(reading: Reading) {
+fn refused(rt: &impl Print, reading: Reading) -> io::Result<()> {
     let mut committed = [7u32; runner::COMMITTED_WORDS];
     let mut pending = [7u32; runner::PENDING_WORDS];
     let mut text = [0u8; ROOM];
     let mut short_committed = [7u32; SHORT_COMMITTED];
     let mut short_pending = [7u32; SHORT_PENDING];
     let mut little = [0u8; 31];
-    end(reading, &mut short_committed, &mut pending, &mut text);
-    end(reading, &mut committed, &mut short_pending, &mut text);
-    end(reading, &mut committed, &mut pending, &mut little);
-    feed(reading, b"\n", &mut committed, &mut pending, &mut little);
+    end(rt, reading, &mut short_committed, &mut pending, &mut text)?;
+    end(rt, reading, &mut committed, &mut short_pending, &mut text)?;
+    end(rt, reading, &mut committed, &mut pending, &mut little)?;
+    feed(
+        rt,
+        reading,
+        b"\n",
+        &mut committed,
+        &mut pending,
+        &mut little,
+    )?;
     let mut r = reading;
     r.length = 66;
-    end(r, &mut committed, &mut pending, &mut text);
+    end(rt, r, &mut committed, &mut pending, &mut text)?;
     r = reading;
     r.number = 1;
-    end(r, &mut committed, &mut pending, &mut text);
+    end(rt, r, &mut committed, &mut pending, &mut text)?;
     r = reading;
     let mut m = r.machine;
     m.tickets = 9;
     r.machine = m;
-    end(r, &mut committed, &mut pending, &mut text);
+    end(rt, r, &mut committed, &mut pending, &mut text)?;
     m = Machine::blank();
     m.commits = 9;
     r.machine = m;
-    end(r, &mut committed, &mut pending, &mut text);
+    end(rt, r, &mut committed, &mut pending, &mut text)?;
+    Ok(())
 }
 
 // Prints the refusal, or the bytes that were written.
-fn show(refusal: u8, written: usize, text: &[u8])
+fn show(rt: &impl Print, refusal: u8, written: usize, text: &[u8]) -> io::Result<()>
     requires { written ≤ length text.now }
 {
     if refusal == 0 {
-        write(&text[..written]);
+        write(rt, &text[..written])
     } else {
-        write(b"not taken: refusal ");
-        write_number(refusal as u32);
-        write(b"\n");
+        write(rt, b"not taken: refusal ")?;
+        write_number(rt, refusal as u32)?;
+        write(rt, b"\n")
     }
 }
 
-fn write_number(n: u32) {
+fn write_number(rt: &impl Print, n: u32) -> io::Result<()> {
     let mut scratch = [0u8; 10];
     let digits = decimal::print(n, &mut scratch);
-    write(digits);
+    write(rt, digits)
 }
 
-fn write(bytes: &[u8]) {
-    io::write_all(STDOUT_FILENO, bytes);
+fn write(rt: &impl Print, bytes: &[u8]) -> io::Result<()> {
+    rt.write_all(bytes)
 }

@@ -5,9 +5,9 @@
 ghost use Rattle.std.specs.Prelude.{◌≤◌};
 
 use crate::rows::{COUNT, Call, ROWS, Row, row_at};
-use one_core::Answer;
-use libc::STDOUT_FILENO;
 use machine::{Machine, Outcome};
+use one_core::Answer;
+use std::io;
 
 mod rows;
 
@@ -24,42 +24,44 @@ struct Sizes {
 }
 
 // Plays every row on one machine and its tables, which hold sevens until a setup clears them.
-fn main() {
+fn main(rt: HostRuntime) -> io::Result<()> {
     let mut committed = [7u32; COMMITTED_WORDS];
     let mut pending = [7u32; PENDING_WORDS];
     // refused, setup hands back the blank record
     let mut machine = Machine::setup(0, 0, &mut committed, &mut pending).machine;
     let rows = ROWS;
     for i in 0..COUNT {
-        machine = play(machine, row_at(&rows, i), &mut committed, &mut pending);
+        machine = play(&rt, machine, row_at(&rows, i), &mut committed, &mut pending)?;
     }
+    Ok(())
 }
 
 // Plays one row, and hands back the record after it.
 fn play(
+    rt: &impl Print,
     machine: Machine,
     row: Row,
     committed: &mut [u32; COMMITTED_WORDS],
     pending: &mut [u32; PENDING_WORDS],
-) -> Machine {
+) -> io::Result<Machine> {
     match row {
         Row::Call(call) => {
             let out = make(machine, call, committed, pending);
             let answer = out.answer;
-            show(answer);
-            out.machine
+            show(rt, answer)?;
+            Ok(out.machine)
         }
         Row::Heading(letter) => {
-            heading(letter);
-            machine
+            heading(rt, letter)?;
+            Ok(machine)
         }
         Row::Cards => {
-            show_cards(machine, committed);
-            machine
+            show_cards(rt, machine, committed)?;
+            Ok(machine)
         }
         Row::Malformed => {
-            show(Answer::Refused(11));
-            machine
+            show(rt, Answer::Refused(11))?;
+            Ok(machine)
         }
     }
 }
@@ -121,60 +123,62 @@ fn run(machine: Machine, call: Call, committed: &mut [u32], pending: &mut [u32])
 }
 
 // Writes an answer and its value, or `-` where it has none.
-fn show(answer: Answer) {
+fn show(rt: &impl Print, answer: Answer) -> io::Result<()> {
     match answer {
-        Answer::Ready => write(b"ready -\n"),
-        Answer::Running => write(b"running -\n"),
-        Answer::Queued => write(b"queued -\n"),
-        Answer::Begun(ticket) => write_with(b"begun ", ticket),
-        Answer::Value(value, _) => write_with(b"value ", value),
-        Answer::Written => write(b"written -\n"),
-        Answer::Waits(core) => write_with(b"waits ", core as u32),
-        Answer::Committed(setbacks) => write_with(b"committed ", setbacks as u32),
-        Answer::SetBack => write(b"setback -\n"),
-        Answer::Ended => write(b"ended -\n"),
-        Answer::Finished(job) => write_with(b"finished ", job as u32),
-        Answer::Refused(number) => write_with(b"refused ", number as u32),
+        Answer::Ready => write(rt, b"ready -\n"),
+        Answer::Running => write(rt, b"running -\n"),
+        Answer::Queued => write(rt, b"queued -\n"),
+        Answer::Begun(ticket) => write_with(rt, b"begun ", ticket),
+        Answer::Value(value, _) => write_with(rt, b"value ", value),
+        Answer::Written => write(rt, b"written -\n"),
+        Answer::Waits(core) => write_with(rt, b"waits ", core as u32),
+        Answer::Committed(setbacks) => write_with(rt, b"committed ", setbacks as u32),
+        Answer::SetBack => write(rt, b"setback -\n"),
+        Answer::Ended => write(rt, b"ended -\n"),
+        Answer::Finished(job) => write_with(rt, b"finished ", job as u32),
+        Answer::Refused(number) => write_with(rt, b"refused ", number as u32),
     }
 }
 
 // Writes an example's heading.
-fn heading(letter: u32) {
+fn heading(rt: &impl Print, letter: u32) -> io::Result<()> {
     if letter <= 255 {
         let line = [letter as u8, b'\n'];
-        write(&line);
+        write(rt, &line)?;
     }
+    Ok(())
 }
 
 // Writes the machine's committed values.
-fn show_cards(machine: Machine, committed: &[u32]) {
+fn show_cards(rt: &impl Print, machine: Machine, committed: &[u32]) -> io::Result<()> {
     let n = least(machine.objects as usize, committed.len());
-    write(b"cards");
-    write_numbers(&committed[..n]);
-    write(b"\n");
+    write(rt, b"cards")?;
+    write_numbers(rt, &committed[..n])?;
+    write(rt, b"\n")
 }
 
-fn write_numbers(values: &[u32]) {
+fn write_numbers(rt: &impl Print, values: &[u32]) -> io::Result<()> {
     let mut i = 0;
     while i < values.len() {
-        write(b" ");
-        write_number(values[i]);
+        write(rt, b" ")?;
+        write_number(rt, values[i])?;
         i += 1;
     }
+    Ok(())
 }
 
-fn write_with(word: &[u8], value: u32) {
-    write(word);
-    write_number(value);
-    write(b"\n");
+fn write_with(rt: &impl Print, word: &[u8], value: u32) -> io::Result<()> {
+    write(rt, word)?;
+    write_number(rt, value)?;
+    write(rt, b"\n")
 }
 
-fn write_number(n: u32) {
+fn write_number(rt: &impl Print, n: u32) -> io::Result<()> {
     let mut scratch = [0u8; 10];
     let digits = decimal::print(n, &mut scratch);
-    write(digits);
+    write(rt, digits)
 }
 
-fn write(bytes: &[u8]) {
-    io::write_all(STDOUT_FILENO, bytes);
+fn write(rt: &impl Print, bytes: &[u8]) -> io::Result<()> {
+    rt.write_all(bytes)
 }

@@ -9,40 +9,55 @@ mod text;
 ghost use Rattle.std.specs.Prelude.{◌≤◌, length};
 ghost use Rattle.levels.specs.Printed.{most_printed};
 
-use libc::{STDERR_FILENO, STDIN_FILENO, STDOUT_FILENO};
 use sheet::LONGEST_SHEET;
+use std::env::{Env, FillError};
+use std::io;
+use std::io::Read;
 use text::{ROOM, put_sheet};
 
-fn main() {
-    if os::arg_count() > 1 {
-        io::write_all(STDERR_FILENO, b"levels: usage: levels < SHEET > LEVELS\n");
+fn main(rt: HostRuntime) {
+    if has_argument(&rt) {
+        let _ = rt.eprintln("levels: usage: levels < SHEET > LEVELS");
     } else {
         let mut input = [0u8; LONGEST_SHEET + 1];
         let mut output = [0u8; ROOM];
-        run(&mut input, &mut output);
+        run(&rt, &mut input, &mut output);
+    }
+}
+
+// Whether the program was given an argument.
+fn has_argument(rt: &impl Env) -> bool {
+    let mut text = [0u8; 1];
+    match rt.arg(1, &mut text) {
+        Err(FillError::NotPresent) => false,
+        _ => true,
     }
 }
 
 // Reads standard input to its end, or until the input is full, and prints what it is answered.
-fn run(input: &mut [u8], output: &mut [u8])
+fn run(rt: &(impl Input + Print + Eprint), input: &mut [u8], output: &mut [u8])
     requires { most_printed ≤ length output.old }
 {
+    let mut reader = rt.reader();
     let mut n = 0;
     let mut end = input.len();
     while n < end {
-        let got = libc::read(STDIN_FILENO, &mut input[n..]);
-        if got < 0 {
-            os::fail(b"levels: read");
-            return;
+        match reader.read(&mut input[n..]) {
+            Ok(0) => end = n,
+            Ok(k) => n += k,
+            Err(error) => {
+                fail(rt, "read", error);
+                return;
+            }
         }
-        let k = io::count(got, &input[n..]);
-        if k == 0 {
-            end = n;
-        }
-        n += k;
     }
     let k = put_sheet(&input[..n], output);
-    if !io::write_all(STDOUT_FILENO, &output[..k]) {
-        os::fail(b"levels: write");
+    if let Err(error) = rt.write_all(&output[..k]) {
+        fail(rt, "write", error);
     }
+}
+
+// Says on standard error what failed.
+fn fail(rt: &impl Eprint, what: &str, error: io::Error) {
+    let _ = eprintln!(rt; "levels: {what}: {error}");
 }
