@@ -5,12 +5,12 @@
 # proves and builds `cards` (minutes the first time, nothing after that) and runs it on case A of document 01
 run:
 	@tests/build.sh cards
-	@target/bin/cards < examples/case-a.script
+	@build/cards < examples/case-a.script
 
 # proves and builds `levels` and runs it on the sheet that the kit ships with
 levels:
 	@tests/build.sh levels
-	@target/bin/levels < examples/table-6.1.sheet
+	@build/levels < examples/table-6.1.sheet
 
 test:
 	@tests/run.sh
@@ -49,4 +49,4 @@ bench:
 	@bench/sheet.sh
 
 clean:
-	rm -rf target build reference/target bench/reference/target
+	rm -rf build crates/*/out reference/target reference/calls/target reference/sheets/target bench/reference/target

@@ -6,14 +6,14 @@ set -eu
 cd "$(dirname "$0")/.."
 tests/tool.sh rt cargo gcc valgrind
 
-out=target/bench
+out=build/bench
 valgrind=$(command -v valgrind)
 few=10
 many=110
 mkdir -p "$out"
-rt staticlib bench_calls >"$out/staticlib.log" 2>&1 || { tail -20 "$out/staticlib.log"; exit 1; }
+(cd crates/bench_calls && rt lib) >"$out/lib.log" 2>&1 || { tail -20 "$out/lib.log"; exit 1; }
 cargo build --quiet --release --offline --manifest-path bench/reference/Cargo.toml --target-dir "$out/reference"
-gcc -O2 -o "$out/calls" bench/calls.c target/staticlib/libbench_calls.a "$out/reference/release/libbench_reference.a" -lpthread -ldl -lm
+gcc -O2 -o "$out/calls" bench/calls.c crates/bench_calls/out/libbench_calls.a "$out/reference/release/libbench_reference.a" -lpthread -ldl -lm
 
 # counted WHICH CORES CALL COUNT: the instructions of all runs of the list, one at each place of the stack, each with a line of output
 counted() {

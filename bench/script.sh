@@ -7,19 +7,19 @@ cd "$(dirname "$0")/.."
 tests/tool.sh rt cargo gcc make valgrind
 [ -x /usr/bin/time ] || { echo "missing tool: /usr/bin/time" >&2; exit 1; }
 
-out=target/bench
+out=build/bench
 valgrind=$(command -v valgrind)
 seed=10
 few=100000
 many=1000000
 mkdir -p "$out"
-rt check cards >"$out/cards.log" 2>&1 || { tail -20 "$out/cards.log"; exit 1; }
+tests/build.sh cards
 make --no-print-directory host peer
 # the whole program at once, and no checks that a release does not need
 export CARGO_PROFILE_RELEASE_LTO=fat CARGO_PROFILE_RELEASE_CODEGEN_UNITS=1 CARGO_PROFILE_RELEASE_PANIC=abort
 export CARGO_PROFILE_RELEASE_OVERFLOW_CHECKS=false CARGO_PROFILE_RELEASE_DEBUG_ASSERTIONS=false
 cargo build --quiet --release --offline --manifest-path reference/Cargo.toml --target-dir "$out/programs"
-cards=target/bin/cards
+cards=build/cards
 host=build/cards_host
 peer=build/cards_peer
 reference=$out/programs/release/cards-reference

@@ -6,7 +6,7 @@ shopt -s inherit_errexit
 cd "$(dirname "$0")/.."
 tests/tool.sh rt cargo gcc make valgrind
 
-out=target/bench
+out=build/bench
 valgrind=$(command -v valgrind)
 few=10
 many=110
@@ -72,7 +72,7 @@ function_row() {
 # program_row NAME SHEET: the whole run of both programs
 program_row() {
   local ours theirs
-  ours=$(counted target/bin/levels <"$2")
+  ours=$(counted build/levels <"$2")
   cp "$out/levels" "$out/levels.cards"
   theirs=$(counted "$out/programs/release/levels-reference" <"$2")
   cmp -s "$out/levels" "$out/levels.cards" || { echo "sheet.sh: $1: the programs differ" >&2; exit 1; }

@@ -1,7 +1,8 @@
 #!/usr/bin/env bash
 # build.sh WHAT..: builds each, unless what it is made of and what was made are, byte for byte, as the last build left them:
-#   cards   target/bin/cards, proved      levels   target/bin/levels, proved
-#   lib   build/libcards.a, proved        host   build/cards_host, over lib
+#   cards   build/cards, proved      levels   build/levels, proved
+#   lib   build/libcards.a, proved   host   build/cards_host, over lib
+#   proved   build/cards and build/levels: those that rt ci has just proved, built and run
 # Says on standard error what it does before it starts and what it wrote; where it fails, the lines with the error and the log.
 set -u
 cd "$(dirname "$0")/.."
@@ -10,7 +11,7 @@ cd "$(dirname "$0")/.."
 crates() {
   local crate
   echo crates.txt
-  for crate in "$1" $(sed -n "s/^$1://p" crates.txt); do
+  for crate in "$1" $(sed -nE "s/^$1( [^:]*)?://p" crates.txt); do
     for part in src specs proofs stdin stdout args data; do
       [ ! -e "crates/$crate/$part" ] || find "crates/$crate/$part" -type f
     done
@@ -25,24 +26,29 @@ state() {
       host) gcc --version ;;
     esac
     case $1 in
-      cards | levels) crates "$1"; echo "target/bin/$1" ;;
+      cards | levels) crates "$1"; echo "build/$1" ;;
       lib) crates entry; echo build/libcards.a ;;
       host) printf '%s\n' host/* include/cards.h build/libcards.a build/cards_host build/cards_host_checked ;;
     esac | sort | tr '\n' '\0' | xargs -0 sha256sum 2> /dev/null
   } | sha256sum
 }
 
-# program NAME: target/bin/NAME
+# program NAME: build/NAME. rt proves and builds it, and runs it, here on an empty input
 program() {
-  [ -e "target/bin/$1" ] || rm -f "target/stamp/$1" # rt goes by its stamp alone
-  rt check "$1" && [ -x "target/bin/$1" ]
+  (cd "crates/$1" && rt run < /dev/null) && cp "crates/$1/out/$1" "build/$1"
+}
+
+# taken NAME: build/NAME, which rt ci has just built
+taken() {
+  rm -f "build/$1" "build/$1.state"
+  cp "crates/$1/out/$1" "build/$1" && state "$1" > "build/$1.state"
 }
 
 make_cards() { program cards; }
 
 make_levels() { program levels; }
 
-make_lib() { rt staticlib entry && cp target/staticlib/libentry.a build/libcards.a; }
+make_lib() { (cd crates/entry && rt lib) && cp crates/entry/out/libentry.a build/libcards.a; }
 
 make_host() { host/build.sh; }
 
@@ -74,9 +80,10 @@ proving="is proved and built first, which takes some minutes (seconds where litt
 mkdir -p build || exit 1
 for what in "$@"; do
   case $what in
-    cards | levels) build "$what" "target/bin/$what" "$proving" rt || exit 1 ;;
+    cards | levels) build "$what" "build/$what" "$proving" rt || exit 1 ;;
     lib) build lib build/libcards.a "$proving" rt || exit 1 ;;
     host) build host build/cards_host "is compiled" gcc || exit 1 ;;
-    *) echo "usage: tests/build.sh cards|levels|lib|host.." >&2; exit 2 ;;
+    proved) taken cards && taken levels || exit 1 ;;
+    *) echo "usage: tests/build.sh cards|levels|lib|host|proved.." >&2; exit 2 ;;
   esac
 done

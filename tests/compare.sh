@@ -4,10 +4,11 @@ set -u
 cd "$(dirname "$0")/.."
 bin=reference/target/release
 cargo build --quiet --release --offline --manifest-path reference/Cargo.toml || { echo "0 passed, 1 failed"; exit 1; }
-cards=target/bin/cards
-levels=target/bin/levels
+cards=build/cards
+levels=build/levels
 host=build/cards_host
 peer=build/cards_peer
+door=crates/calls_door/out/libcalls_door.a
 calls=reference/target/calls/release/compare-calls
 scripts=20000
 . tests/count.sh
@@ -134,13 +135,13 @@ manual_runs() {
 # the calls of Machine behind an exported door, linked with the reference: an archive of its own
 calls_built() {
   mkdir -p build
-  rt staticlib calls_door > build/calls_door.log 2>&1 || { tail -20 build/calls_door.log; return 1; }
-  tests/linked.sh calls target/staticlib/libcalls_door.a
+  (cd crates/calls_door && rt lib) > build/calls_door.log 2>&1 || { tail -20 build/calls_door.log; return 1; }
+  tests/linked.sh calls "$door"
 }
 
 # nothing of that door is in what is delivered
 door_is_apart() {
-  nm target/staticlib/libcalls_door.a | grep -q ' T calls_door$' || { echo "no door in its own archive"; return 1; }
+  nm "$door" | grep -q ' T calls_door$' || { echo "no door in its own archive"; return 1; }
   nm build/libcards.a "$cards" > "$work/names" && grep -q ' T cards_run$' "$work/names" && ! grep calls_door "$work/names"
 }
 

@@ -26,12 +26,12 @@ compares() {
 echo "seed $seed, count $count; all that is printed is compared with what the second implementation (reference/) prints"
 few=$((count / 100 + 1))
 enough=$((count < 20000 ? 20000 : count))
-compares "target/bin/levels, $count sheets" --sheets --count "$count" target/bin/levels
-compares "target/bin/levels, $few sheets, read in pieces of several sizes" --sheets --pieces --count "$few" target/bin/levels
+compares "build/levels, $count sheets" --sheets --count "$count" build/levels
+compares "build/levels, $few sheets, read in pieces of several sizes" --sheets --pieces --count "$few" build/levels
 echo "the C functions, $enough sheets and all one byte from two of them, each with lists of several lengths:"
 reference/target/sheets/release/compare-sheets --seed "$seed" --count "$enough"
-compares "target/bin/cards, $count scripts, most of them short" --quick --count "$count" target/bin/cards
+compares "build/cards, $count scripts, most of them short" --quick --count "$count" build/cards
 compares "the C entry, the same scripts" --frames --quick --count "$count" build/cards_host frames
-compares "target/bin/cards, $few short scripts, read in pieces of 1, 2, 3, .. 66 bytes" --pieces --count "$few" target/bin/cards
-compares "target/bin/cards, $count scripts of any length" --limit 60 --count "$count" target/bin/cards
+compares "build/cards, $few short scripts, read in pieces of 1, 2, 3, .. 66 bytes" --pieces --count "$few" build/cards
+compares "build/cards, $count scripts of any length" --limit 60 --count "$count" build/cards
 compares "the C entry, the same scripts" --frames --limit 60 --count "$count" build/cards_host frames

@@ -20,7 +20,7 @@ prints_levels() {
 
 # the file of the shipped sheet has the bytes of its definition, and `levels` is held to it
 shipped() {
-  printf "$(sed -n 's/^shippedSheet = ascii "\(.*\)"$/\1/p' crates/sheet/specs/Shipped.antt)" | cmp - examples/table-6.1.sheet &&
+  printf "$(sed -n 's/^shipped_sheet = ascii "\(.*\)"$/\1/p' crates/sheet/specs/Shipped.antt)" | cmp - examples/table-6.1.sheet &&
     cmp crates/levels/stdin examples/table-6.1.sheet && cmp crates/levels/stdout examples/table-6.1.levels
 }
 
@@ -123,7 +123,7 @@ no_sheet() {
   refuses 1 "$1" "$work/text"
 }
 
-for program in "$bin/levels-reference" target/bin/levels; do check "levels of the examples by $program" prints_levels "$program"; done
+for program in "$bin/levels-reference" build/levels; do check "levels of the examples by $program" prints_levels "$program"; done
 for sheet in examples/*.sheet; do check "$sheet: picture" true_to "$sheet" "${sheet%.sheet}.levels"; done
 check "table 6.1: the file and the definition" shipped
 check "the stored picture of table 6.1" diff docs/table-6.1.svg <(picture examples/table-6.1.sheet)

@@ -56,7 +56,7 @@ found "shifts by written numbers" '    1 << 0,\n    1 << 1,'
 found "powers by written numbers" 'masks = 2 ^ 0 ∷ 2 ^ 1 ∷ 2 ^ 2 ∷ []'
 found "filled by a loop" '    let mut marks: [u64; OBJECTS] = [0; OBJECTS];'
 
-find crates -name '*.rt' -o -name '*.antt' >"$work/files"
+find crates -path 'crates/*/out' -prune -o \( -name '*.rt' -o -name '*.antt' \) -print >"$work/files"
 while read -r file; do tables "$file"; done <"$work/files" >"$work/left"
 if [ -s "$work/files" ] && [ ! -s "$work/left" ]; then
   passed=$((passed + 1))

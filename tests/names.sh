@@ -1,7 +1,7 @@
 #!/usr/bin/env bash
 # Names. No name is defined twice in crates/*/specs: a definition, a record or a case of a data type. Each file of laws (crates/*/proofs,
-# but for the functions' own Proof.antt and the lists Lib.antt) is named in docs/ARCHITECTURE.md. A public function asks nothing: one with a
-# `requires` stands in a module `inside`, or is the crate's own. Ends in 'N passed, M failed': N names, files and public functions, M faults.
+# but for the functions' own Proof.antt, Invariants.antt and Answers.antt, and the lists Lib.antt) is named in docs/ARCHITECTURE.md. A public
+# function asks nothing: one with a `requires` stands in a module `inside`, or is the crate's own. Ends in 'N passed, M failed': N names, files and public functions, M faults.
 # Usage: tests/names.sh [DIR], where DIR holds crates/ and docs/
 set -u
 cd "${1:-$(dirname "$0")/..}" || exit 1
@@ -26,7 +26,7 @@ while read -r file; do
   if grep -qE "(\`|[ ,/])$name(\`|[ ,/.;])" docs/ARCHITECTURE.md; then passed=$((passed + 1)); continue; fi
   failed=$((failed + 1))
   echo "$file is not named in docs/ARCHITECTURE.md"
-done < <(find crates/*/proofs -name '*.antt' ! -name Proof.antt ! -name Lib.antt | sort)
+done < <(find crates/*/proofs -name '*.antt' ! -name Proof.antt ! -name Invariants.antt ! -name Answers.antt ! -name Lib.antt | sort)
 # a function's signature and contract end where its body begins, a brace alone on its line or at the end of its first
 find crates/*/src -name '*.rt' ! -path '*/inside/*' ! -name inside.rt -exec awk '
   /^ *pub (extern "C" )?fn / { name = $0; sub(/^.*fn /, "", name); sub(/\(.*/, "", name); open = 1; asks = 0 }

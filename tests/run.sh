@@ -8,7 +8,8 @@ tests/tool.sh rt cargo gcc make || { echo "0 passed, 1 failed"; exit 1; }
 passed=0
 failed=0
 log=$(mktemp)
-trap 'rm -f "$log"' EXIT
+said=$(mktemp)
+trap 'rm -f "$log" "$said"' EXIT
 
 # part NAME COMMAND..: runs the command, shows what it prints and adds its counts. Counts are lines of the form
 # 'N passed, M failed' (rt, our scripts) or 'test result: .. N passed; M failed' (cargo).
@@ -31,15 +32,19 @@ counted() {
   if "$@"; then echo "1 passed, 0 failed"; else echo "0 passed, 1 failed"; return 1; fi
 }
 
-# nothing that an earlier run has built is trusted; rt ci does the same with target/
-rm -rf build
+# proved: rt ci. It passes over an edit that cannot be applied, compiled or read; here that is a failure
+proved() {
+  rt ci 2>&1 | tee "$said"
+  [ "${PIPESTATUS[0]}" -eq 0 ] && grep -q '^rt: ok;' "$said" && ! grep -qE '^rt: ok;.*, [0-9]+ bad' "$said"
+}
 
+part "proofs, layout, must-fail edits and programs (rt ci)" proved
+# nothing that an earlier run has built is trusted; rt ci does the same with what stands in crates/*/out
+rm -rf build
+part "the programs that rt ci has built" counted tests/build.sh proved
 part "each edit fits its files" tests/applies.sh
-# rt waits for a whole batch before it starts the next; with four in a batch no core is idle for long
-part "proofs, must-fail edits and programs (rt ci)" env RT_JOBS="${RT_JOBS:-4}" rt ci
 part "what each edit makes wrong, judged by its log" tests/edits.sh
 part "edits across crates" tests/knots.sh
-part "layout (rt fmt --check)" counted rt fmt --check
 part "names" tests/names.sh
 part "no table of marks" tests/marks.sh
 part "documents (docs/TRACE.md)" tests/trace.sh

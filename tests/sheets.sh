@@ -4,7 +4,7 @@ set -u
 cd "$(dirname "$0")/.."
 bin=reference/target/release
 cargo build --quiet --release --offline --manifest-path reference/Cargo.toml || { echo "0 passed, 1 failed"; exit 1; }
-levels=target/bin/levels
+levels=build/levels
 host=build/cards_host
 lists=reference/target/sheets/release/compare-sheets
 . tests/count.sh

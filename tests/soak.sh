@@ -16,22 +16,22 @@ tests/linked.sh sheets build/libcards.a
 lists=reference/target/sheets/release/compare-sheets
 
 echo "== scripts of any length, and quick ones: cards"
-"$bin/compare" --limit 60 --seed "$seed" --count 2000 target/bin/cards
-"$bin/compare" --quick --seed "$((seed + 100000))" --count 100000 target/bin/cards
+"$bin/compare" --limit 60 --seed "$seed" --count 2000 build/cards
+"$bin/compare" --quick --seed "$((seed + 100000))" --count 100000 build/cards
 echo "== the same through the C entry"
 "$bin/compare" --frames --limit 60 --seed "$seed" --count 2000 build/cards_host frames
 "$bin/compare" --frames --quick --seed "$((seed + 100000))" --count 100000 build/cards_host frames
 echo "== input in pieces"
-"$bin/compare" --pieces --seed "$seed" --count 500 target/bin/cards
+"$bin/compare" --pieces --seed "$seed" --count 500 build/cards
 echo "== sheets: levels, whole and in pieces"
-"$bin/compare" --sheets --seed "$seed" --count 20000 target/bin/levels
-"$bin/compare" --sheets --pieces --seed "$seed" --count 200 target/bin/levels
+"$bin/compare" --sheets --seed "$seed" --count 20000 build/levels
+"$bin/compare" --sheets --pieces --seed "$seed" --count 200 build/levels
 echo "== sheets through the C functions, lists of several lengths"
 "$lists" --seed "$seed" --count 1000000
 echo "== claims of demands 2 and 3 on listings of cards, 1 to 16 cores"
 for cores in 1 2 3 5 8 12 16; do
   "$bin/make-script" "$((seed + cores))" "$cores" 64 60000 > "$work/script"
-  target/bin/cards < "$work/script" > "$work/listing"
+  build/cards < "$work/script" > "$work/listing"
   "$bin/check-run" "$work/listing" < "$work/script"
 done
 if [ -x build/cards_host_checked ]; then
@@ -42,13 +42,13 @@ echo "== cards under valgrind"
 "$bin/make-script" "$seed" 16 64 20000 > "$work/script"
 head -c 65536 /dev/urandom > "$work/garbage"
 for input in "$work/script" "$work/garbage" examples/every-answer.script /dev/null; do
-  valgrind --quiet --error-exitcode=9 target/bin/cards < "$input" > "$work/listing"
+  valgrind --quiet --error-exitcode=9 build/cards < "$input" > "$work/listing"
   "$bin/cards-reference" < "$input" | cmp - "$work/listing"
 done
 echo "== levels under valgrind"
 for input in 1 2 3 4 5 6 7 8; do "$bin/make-sheet" "$((seed + input))" > "$work/sheet.$input"; done
 for input in "$work"/sheet.* "$work/garbage" "$work/script" /dev/null; do
-  valgrind --quiet --error-exitcode=9 target/bin/levels < "$input" > "$work/levels"
+  valgrind --quiet --error-exitcode=9 build/levels < "$input" > "$work/levels"
   "$bin/levels-reference" < "$input" | cmp - "$work/levels"
 done
 echo "== the C functions on sheets under valgrind"

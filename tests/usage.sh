@@ -30,7 +30,7 @@ path_without() {
 # nothing has changed: no build does anything
 unchanged() {
   tests/build.sh cards levels lib host > "$work/out" 2> "$work/error" && [ ! -s "$work/out" ] || return 1
-  printf '%s: nothing has changed since it was made\n' target/bin/cards target/bin/levels build/libcards.a build/cards_host |
+  printf '%s: nothing has changed since it was made\n' build/cards build/levels build/libcards.a build/cards_host |
     diff - "$work/error"
 }
 
@@ -52,37 +52,37 @@ told() { PATH=$work/stand-in:$PATH "$work/copy/tests/build.sh" cards 2>&1 | sed 
 build_tells() {
   mkdir -p "$work/copy/crates/cards/src" "$work/stand-in"
   cp -r tests crates.txt "$work/copy"
-  printf '%s\n' '#!/bin/sh' '[ "$1" != version ] || exit 0' 'cat crates/cards/src/main.rt' 'grep -q right crates/cards/src/main.rt || exit 1' \
-    'mkdir -p target/bin; cp crates/cards/src/main.rt target/bin/cards; chmod +x target/bin/cards' > "$work/stand-in/rt"
+  printf '%s\n' '#!/bin/sh' '[ "$1" != version ] || exit 0' 'cat src/main.rt' 'grep -q right src/main.rt || exit 1' \
+    'mkdir -p out; cp src/main.rt out/cards; chmod +x out/cards' > "$work/stand-in/rt"
   chmod +x "$work/stand-in/rt"
   local main=$work/copy/crates/cards/src/main.rt
-  local first="target/bin/cards is proved and built first" same="target/bin/cards: nothing has changed since it was made"
+  local first="build/cards is proved and built first" same="build/cards: nothing has changed since it was made"
   echo right > "$main"
-  told "$first" "target/bin/cards is written" && told "$same" || return 1
+  told "$first" "build/cards is written" && told "$same" || return 1
   echo right too > "$main"
-  told "$first" "target/bin/cards is written" && told "$same" || return 1
+  told "$first" "build/cards is written" && told "$same" || return 1
   printf 'so far good\nmain.rt:1:1: error: this is wrong\nso on\n' > "$main"
-  told "$first" "target/bin/cards: FAILED and not written; the lines with the error" "2:main.rt:1:1: error: this is wrong" \
-    "target/bin/cards: the whole log is build/cards.log" || return 1
+  told "$first" "build/cards: FAILED and not written; the lines with the error" "2:main.rt:1:1: error: this is wrong" \
+    "build/cards: the whole log is build/cards.log" || return 1
   ! PATH=$work/stand-in:$PATH "$work/copy/tests/build.sh" cards 2> /dev/null || return 1
   echo right > "$main"
-  told "$first" "target/bin/cards is written" && rm "$work/copy/target/bin/cards" && told "$first" "target/bin/cards is written"
+  told "$first" "build/cards is written" && rm "$work/copy/build/cards" && told "$first" "build/cards is written"
 }
 
 tests/build.sh cards levels lib host 2> "$work/error" || { cat "$work/error"; echo "0 passed, 1 failed"; exit 1; }
 usage='cards: usage: cards < SCRIPT > LISTING'
-check "cards with an argument" says "$usage" target/bin/cards x
-check "cards with a file's name" says "$usage" target/bin/cards examples/case-a.script
-check "cards with an empty argument" says "$usage" target/bin/cards ""
-check "cards with many arguments" says "$usage" target/bin/cards 1 2 3 --help
+check "cards with an argument" says "$usage" build/cards x
+check "cards with a file's name" says "$usage" build/cards examples/case-a.script
+check "cards with an empty argument" says "$usage" build/cards ""
+check "cards with many arguments" says "$usage" build/cards 1 2 3 --help
 usage='levels: usage: levels < SHEET > LEVELS'
-check "levels with an argument" says "$usage" target/bin/levels x
-check "levels with a file's name" says "$usage" target/bin/levels examples/table-6.1.sheet
-check "levels with an empty argument" says "$usage" target/bin/levels ""
-check "levels with many arguments" says "$usage" target/bin/levels 1 2 3 --help
-check "levels: a read that fails" fails 'levels: read: .+' unread target/bin/levels
-check "levels: a write that fails" fails 'levels: write: .+' unwritten target/bin/levels
-check "cards: a write that fails" fails 'cards: write: .+' unwritten target/bin/cards
+check "levels with an argument" says "$usage" build/levels x
+check "levels with a file's name" says "$usage" build/levels examples/table-6.1.sheet
+check "levels with an empty argument" says "$usage" build/levels ""
+check "levels with many arguments" says "$usage" build/levels 1 2 3 --help
+check "levels: a read that fails" fails 'levels: read: .+' unread build/levels
+check "levels: a write that fails" fails 'levels: write: .+' unwritten build/levels
+check "cards: a write that fails" fails 'cards: write: .+' unwritten build/cards
 for seed in x -1 007 1.5 ' ' 1234567890123456789; do
   check "fuzz: seed '$seed'" refuses "SEED is a number .* not '$seed'; usage: make fuzz .*" tests/fuzz.sh "$seed" 1
 done

@@ -11,7 +11,7 @@ work=$(mktemp -d)
 trap 'rm -rf "$work"' EXIT
 . tests/copies.sh
 mkdir -p build
-rt staticlib calls_door > build/calls_door.log 2>&1 || { tail -20 build/calls_door.log; exit 1; }
+(cd crates/calls_door && rt lib) > build/calls_door.log 2>&1 || { tail -20 build/calls_door.log; exit 1; }
 alike=0
 
 # wrong NAME FILE EDIT: a copy in which sed has edited a file of src/, compared
@@ -19,7 +19,7 @@ wrong() {
   local name=$1
   altered "$@"
   cp -r reference/calls "$work/copy"
-  ARCHIVE=$PWD/target/staticlib/libcalls_door.a RUSTFLAGS=-Awarnings cargo build --quiet --release --offline \
+  ARCHIVE=$PWD/crates/calls_door/out/libcalls_door.a RUSTFLAGS=-Awarnings cargo build --quiet --release --offline \
     --manifest-path "$work/copy/calls/Cargo.toml" --target-dir "$work/target"
   "$work/target/release/compare-calls" --seed "$seed" --count "$count" > "$work/report" || true
   sed -nE "s/^seed [0-9]+ differs after ([0-9]+) calls, ([^:]*): ([A-Za-z]+).*/| $name | \1 | \3, \2 |/p" "$work/report" > "$work/row"
