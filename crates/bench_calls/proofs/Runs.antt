@@ -1,14 +1,11 @@
 -- A list of calls, one number after another: what is left of the list, run from where the loop is, gives what the whole list gives.
 use Rattle.std.proofs.Common.{◌≡◌, ℕ, suc, ◌+◌, ◌/◌, ◌%◌, ◌<◌, ◌≤◌, List, [], ◌∷◌, length, get_or, drop, sym, refl, ap, ◌∙◌, subst, arith, drop_of_length-le, drop-cons, eq-eqb, ne_eqb}
-use types.Run.{OneOf, miss}
-use denote.Enum.Declared.{tag_of}
 use Rattle.machine.specs.Rule.{World, Result, lent, left, with_machine}
 use Rattle.machine.specs.Answers.{kind}
 use Rattle.machine.specs.declared.Machine.{Machine}
 use Rattle.machine.specs.declared.Outcome.{Outcome}
 use Rattle.one_core.specs.declared.Answer.{Answer}
 use Rattle.one_core.specs.declared.Answer.TheVariants.{Ready, Running, Queued, Begun, Value, Written, Waits, Committed, SetBack, Ended, Finished, Refused}
-use Rattle.std.specs.contracts.Answer as AnswerType
 use Rattle.bench_calls.specs.Lists.{number_of, door, inside, Progress, after_call, ready, after_number, run, door_run, inside_run}
 use Rattle.bench_calls.proofs.Steps.{Left}
 
@@ -86,9 +83,9 @@ inside-ready made o cs ps list e said =
     subst (λ (y : Result). run inside (ready (lent o.machine cs ps)) list ≡ inside_run y list) e
     (unfold inside_run kind in rw said refl)
 
-not-ready : (a : Answer) → OneOf (1 ∷ 2 ∷ 3 ∷ 4 ∷ 5 ∷ 6 ∷ 7 ∷ 8 ∷ 9 ∷ 10 ∷ 11 ∷ []) (tag_of AnswerType.the_type a) → kind a ≡ 0 → ⊥
+not-ready : (a : Answer) → (a ≡ Ready → ⊥) → kind a ≡ 0 → ⊥
 unfolding kind
-not-ready Ready k e = miss (1 ∷ 2 ∷ 3 ∷ 4 ∷ 5 ∷ 6 ∷ 7 ∷ 8 ∷ 9 ∷ 10 ∷ 11 ∷ []) 0 tt k
+not-ready Ready k e = absurd (k refl)
 not-ready Running k e = omega (arith, e)
 not-ready Queued k e = omega (arith, e)
 not-ready (Begun t) k e = omega (arith, e)
@@ -102,7 +99,7 @@ not-ready (Finished j) k e = omega (arith, e)
 not-ready (Refused n) k e = omega (arith, e)
 
 pub inside-refused : (made : Result) (o : Outcome) (cs ps list : List ℕ) → left o cs ps ≡ made
-    → OneOf (1 ∷ 2 ∷ 3 ∷ 4 ∷ 5 ∷ 6 ∷ 7 ∷ 8 ∷ 9 ∷ 10 ∷ 11 ∷ []) (tag_of AnswerType.the_type o.answer)
+    → (o.answer ≡ Ready → ⊥)
     → state o.answer o.machine cs ps o.machine ≡ inside_run made list
 inside-refused made o cs ps list e k =
     subst (λ (y : Result). state o.answer o.machine cs ps o.machine ≡ inside_run y list) e

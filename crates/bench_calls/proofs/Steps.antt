@@ -7,10 +7,8 @@ use Rattle.machine.specs.declared.Outcome.{Outcome}
 use Rattle.one_core.specs.declared.Answer.TheVariants.{Ready, Refused}
 use Rattle.machine.specs.OneCore.{call_of, struck_all, carried_out}
 use Rattle.one_core.specs.declared.calls.Settled.{Settled}
-use Rattle.one_core.specs.declared.calls.Act.TheVariants as Act
 use Rattle.one_core.specs.declared.calls.Act.{Act}
 use Rattle.bench_calls.specs.declared.Ask.{Ask}
-use Rattle.bench_calls.specs.declared.Ask.TheVariants as Ask
 use Rattle.bench_calls.specs.Lists.{number_of, called_by, asked_of, tested, door}
 
 -- what a call left: the number of its answer, and its world

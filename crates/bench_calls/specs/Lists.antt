@@ -5,7 +5,6 @@ use Rattle.one_core.specs.declared.Answer.{Answer}
 use Rattle.one_core.specs.declared.Answer.TheVariants.{Ready, Running, Queued, Begun, Value, Written, Waits, Committed, SetBack, Ended, Finished, Refused}
 use Rattle.one_core.specs.declared.calls.Act.TheVariants as Act
 use Rattle.bench_calls.specs.declared.Ask.{Ask}
-use Rattle.bench_calls.specs.declared.Ask.TheVariants as Ask
 use Rattle.machine.specs.Answers.{kind}
 use Rattle.machine.specs.Sound.{sound}
 use Rattle.machine.specs.Rule.{World, Result, with_machine, setup, rule, Release, Begin, Read, Write, Commit, GiveUp, Finish}

@@ -10,13 +10,13 @@ ghost use Rattle.machine.specs.Inside.{WellFormedWorld};
 ghost use Rattle.machine.specs.Sound.{sound};
 ghost use Rattle.bench_calls.specs.Lists.{number_of, asked_of, door, inside, ready, run, door_run, inside_run};
 
+use machine::inside::calls::{find, find_core};
+use machine::inside::commit::{ahead_of, write_back};
+use machine::{Machine, Outcome};
 use one_core::calls::{Act, Seen, object_of};
 use one_core::inside::calls::{act_on, settle};
 use one_core::inside::transaction::{abort, is_struck};
 use one_core::{Answer, CORES};
-use machine::inside::calls::{find, find_core};
-use machine::inside::commit::{ahead_of, write_back};
-use machine::{Machine, Outcome};
 
 // The calls of a list, beside SAVE, which keeps the record, and RESTORE, which goes back to the one kept.
 const SAVE: u32 = 0;
