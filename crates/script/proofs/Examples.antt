@@ -12,7 +12,6 @@ use Rattle.script.specs.declared.Line.{Line}
 use Rattle.script.specs.declared.Line.TheVariants.{Spells, Malformed}
 use Rattle.script.specs.declared.Columns.{Columns}
 use Rattle.script.specs.declared.Names.{Names}
-use Rattle.script.specs.declared.Names.TheVariants as Names
 use Rattle.table.specs.Pieces.{onto, pieces, same}
 use Rattle.table.specs.Fields.{fields_of, place, places_of, all_stand, columns, columns_of}
 use Rattle.script.specs.Line.{call_name, core_name, card_name, value_name, four_names, fields, ordered, names, verb, numbered, field, with_number, with_dash, spelt, meant, spells}

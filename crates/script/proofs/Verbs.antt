@@ -7,7 +7,6 @@ use native.Mathlib.Omega.{arith}
 use lib.ListN.{length, get_or, drop}
 use borrow.Author.Tests.{ne_eqb}
 use Rattle.script.specs.declared.Verb.{Verb}
-use Rattle.script.specs.declared.Verb.TheVariants as Verb
 use Rattle.table.specs.Pieces.{same}
 use Rattle.script.specs.Line.{verb}
 use Rattle.table.proofs.SameBytes.{other_length}

@@ -5,16 +5,12 @@ use Rattle.decimal.specs.Reading.{read_as_number}
 use Rattle.decimal.specs.declared.Number.{Number}
 use Rattle.decimal.specs.declared.Number.TheVariants as Read
 use Rattle.script.specs.declared.Call.{Call}
-use Rattle.script.specs.declared.Call.TheVariants as Call
 use Rattle.script.specs.declared.Line.{Line}
 use Rattle.script.specs.declared.Line.TheVariants.{Spells, Malformed}
 use Rattle.script.specs.declared.Columns.{Columns}
 use Rattle.script.specs.declared.Names.{Names}
-use Rattle.script.specs.declared.Names.TheVariants as Names
 use Rattle.script.specs.declared.Verb.{Verb}
-use Rattle.script.specs.declared.Verb.TheVariants as Verb
 use Rattle.script.specs.declared.Field.{Field}
-use Rattle.script.specs.declared.Field.TheVariants as Field
 use Rattle.table.specs.Pieces.{same}
 use Rattle.table.specs.Fields.{fields_of, columns_of}
 

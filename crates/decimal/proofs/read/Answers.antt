@@ -4,7 +4,7 @@ use mathlib.Core.Path.{refl, sym, ◌∙◌}
 use mathlib.Core.List.{List}
 use Prim.Native.Nat.{ℕ}
 use native.Mathlib.Omega.{arith}
-use borrow.Author.Tests.{ltb-false, not-true, not-false}
+use borrow.Author.Tests.{ltb-false}
 use Rattle.decimal.proofs.Reading.{no_front, below-digits, above-digits, past-largest, one_more, read_whole}
 use Rattle.decimal.proofs.read.Goals as goal
 use Rattle.decimal.proofs.read.Goals.{In-loop-i, then-b-lt48-via-then-b-lt48, then-b-lt48-via-else-b-lt48+then-b-gt57}
@@ -12,12 +12,12 @@ use Rattle.decimal.proofs.read.Goals.{In-loop-i, then-b-lt48-via-then-b-lt48, th
 pub returns-then-not-no_leading_zero : goal.returns-then-not-no_leading_zero
 returns-then-not-no_leading_zero c =
     let front = c.no_leading_zero in
-    sym (no_front c.args.field.now (sym front.ensures ∙ not-true front.result c.if-not-no_leading_zero.true-raw))
+    sym (no_front c.args.field.now (sym front.ensures ∙ c.if-not-no_leading_zero.true))
 
 pub loop-i-init : goal.loop-i-init
 loop-i-init c =
     let front = c.no_leading_zero in
-    (sym front.ensures ∙ not-false front.result c.if-not-no_leading_zero.false-raw, record { all = refl; value = refl }, omega arith, omega arith)
+    (sym front.ensures ∙ c.if-not-no_leading_zero.false, record { all = refl; value = refl }, omega arith, omega arith)
 
 pub bounds-field-i : goal.bounds-field-i
 bounds-field-i c = omega arith
