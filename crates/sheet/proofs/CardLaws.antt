@@ -18,7 +18,6 @@ use Rattle.table.specs.Fields.{piece_end}
 use Rattle.table.proofs.PieceEnds.{bytes_between}
 use Rattle.table.proofs.Following.{pieces_from, pieces-next, pieces_none}
 use Rattle.sheet.specs.declared.CardList.{CardList}
-use Rattle.sheet.specs.declared.CardList.TheVariants as CardList
 use Rattle.sheet.specs.Sheet.{rising, card_list}
 
 -- ---- `-`, or a list

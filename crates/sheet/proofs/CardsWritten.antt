@@ -19,7 +19,6 @@ use Rattle.objset.proofs.Laws.{same-members, has-none, has-added, added-fits, no
 use Rattle.table.specs.Pieces.{pieces, same, free}
 use Rattle.table.proofs.Laws.{first, others, pieces-begun, pieces-cut}
 use Rattle.sheet.specs.declared.CardList.{CardList}
-use Rattle.sheet.specs.declared.CardList.TheVariants as CardList
 use Rattle.sheet.specs.Sheet.{rising, card_list}
 
 -- ---- how a set of cards is written

@@ -1,7 +1,7 @@
 -- Sheets at the edges of the rule, computed: how many tasks bytes are, 0 for those that are refused. The line of 1,024 bytes and one more.
 use mathlib.Core.Path.{◌≡◌, refl}
 use mathlib.Core.List.{List, [], ◌∷◌, ◌++◌, map}
-use Prim.Native.Nat.{ℕ, zero, suc, ◌+◌}
+use Prim.Native.Nat.{ℕ, zero, suc}
 use Prim.Native.String as String
 use lib.ListN.{length, replicate}
 use Rattle.decimal.specs.Bytes.{byte, ascii}

@@ -2,7 +2,7 @@
 use mathlib.Core.Path.{◌≡◌, refl, sym, ap, ◌∙◌}
 use mathlib.Core.Bool.{Bool, true, false, cond, not, ◌&&◌, ◌||◌, true≢false, and-eq-true_iff}
 use mathlib.Core.List.{List, [], ◌∷◌, ◌++◌, map}
-use Prim.Native.Nat.{ℕ, suc, ◌+◌, ◌^◌, ◌≤◌, ◌<◌}
+use Prim.Native.Nat.{ℕ, suc, ◌^◌, ◌≤◌, ◌<◌}
 use native.Mathlib.Omega.{arith}
 use lib.Dec.{eqb, leb, ltb}
 use lib.ListN.{length, length-append}
@@ -20,7 +20,6 @@ use Rattle.taskset.specs.Tasks.{most_tasks, last_core, occurs, all_differ, cores
 use Rattle.sheet.specs.declared.TaskLine.{TaskLine}
 use Rattle.sheet.specs.declared.TaskLine.TheVariants as Line
 use Rattle.sheet.specs.declared.CardList.{CardList}
-use Rattle.sheet.specs.declared.CardList.TheVariants as CardList
 use Rattle.sheet.specs.Sheet.{rising, comma_list, card_list, with_up_to, with_cards, spelled_task, task_of, task_line, gathered, tasks_below, tasks_of_lines, sheet_tasks, last_task}
 
 -- ---- the cards of a task are a set

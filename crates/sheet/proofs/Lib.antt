@@ -7,6 +7,5 @@ pub mod NamesLaws
 pub mod CardsWritten
 pub mod Written
 pub mod Longest
-pub mod ListCalls
 pub mod Worked
 pub mod Examples

@@ -8,7 +8,6 @@ use Rattle.decimal.specs.declared.Number.TheVariants as Read
 use Rattle.taskset.specs.Tasks.{last_core}
 use Rattle.sheet.specs.declared.TaskLine.TheVariants as Line
 use Rattle.sheet.specs.declared.CardList.{CardList}
-use Rattle.sheet.specs.declared.CardList.TheVariants as CardList
 use Rattle.sheet.specs.Sheet.{last_task, with_up_to, with_cards, spelled_task}
 
 module _ (number core deadline : Number) (cards : CardList) where

@@ -12,7 +12,6 @@ use Rattle.taskset.specs.Tasks.{most_tasks, last_core, occurs, numbers_of}
 use Rattle.sheet.specs.declared.TaskLine.{TaskLine}
 use Rattle.sheet.specs.declared.TaskLine.TheVariants as Line
 use Rattle.sheet.specs.declared.CardList.{CardList}
-use Rattle.sheet.specs.declared.CardList.TheVariants as CardList
 
 -- a line has at most 1,024 bytes
 abbrev pub longest_line : ℕ
