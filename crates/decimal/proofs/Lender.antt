@@ -1,6 +1,8 @@
--- What whoever lent a slice has back of it, where `KeepsFrom` is known of it: the same memory, and from place k on the same bytes.
+-- What whoever lent a slice has back of it, where `keeps_from` is known of it: the same memory, and from place k on the same bytes.
 --     kept_back        the lifetime is over: the slice's memory is back, with as many bytes, and those from place k on are as they were lent
--- Assumes `Logic`, and that place k is within the slice, as `Laws.shown-fits` says of the part that `print` hands back.
+--                      asks that place k is within the slice
+--     print_kept_back  the same of a scratch that `print` has handed a part of: its promises `digits` and `rest` are enough
+-- Assumes `Logic`.
 use mathlib.Core.Path.{◌≡◌, ap}
 use mathlib.Core.List.{List, ◌∷◌, [], ◌++◌}
 use Prim.Native.Nat.{ℕ, ◌≤◌}
@@ -21,7 +23,9 @@ use denote.Builtin.{u8}
 use denote.Ref.{MutBor}
 use denote.Lend.{Held}
 use denote.Follow.{came}
-use Rattle.decimal.specs.Scratch.{KeepsFrom}
+use Rattle.decimal.specs.Spelling.{shown}
+use Rattle.decimal.specs.Scratch.{keeps_from}
+use Rattle.decimal.proofs.Laws.{shown-fits}
 
 module _ {M : Type 1} {𝓤 : Ura M} (𝓛 : Logic 𝓤) (κ : Lft) (x part : MutBor (List ℕ)) (k : ℕ) (within : k ≤ length x.now) where
   -- where the slice lies, and the bytes that it keeps
@@ -42,9 +46,9 @@ module _ {M : Type 1} {𝓤 : Ura M} (𝓛 : Logic 𝓤) (κ : Lft) (x part : Mu
   abbrev pub KeptBack : List ℕ → SProp 𝓤
   KeptBack ys = sem 𝓛 (fsep (feq ℕ (length ys) n) (fsep (feq (List ℕ) (drop-list k ys) (drop-list k x.now)) (cells (mem u8) ys b o)))
 
-  pub kept_back : ent 𝓤 (sep 𝓤 (A.dead κ) (sep 𝓤 (A.lent κ (Held u8 n b o x.ghost_name)) (sem 𝓛 (KeepsFrom k x part)))) (H.⇛ (ex 𝓤 KeptBack))
+  pub kept_back : ent 𝓤 (sep 𝓤 (A.dead κ) (sep 𝓤 (A.lent κ (Held u8 n b o x.ghost_name)) (sem 𝓛 (keeps_from k x part)))) (H.⇛ (ex 𝓤 KeptBack))
   kept_back =
-      qed 𝓛 (‵ (fdead κ) ∷ ‵ (flent κ (Held u8 n b o x.ghost_name)) ∷ ‵ (KeepsFrom k x part) ∷ []) ∵
+      qed 𝓛 (‵ (fdead κ) ∷ ‵ (flent κ (Held u8 n b o x.ghost_name)) ∷ ‵ (keeps_from k x part) ∷ []) ∵
       updating ! $ lent_back ! tt $ fpick ! (λ ys. fsplit ! $ fsplit ! $ feq_l ! (λ el.
       -- [its places; auth of its name; what the slice ends as]
       move ! (1 ∷ 2 ∷ []) $
@@ -54,3 +58,14 @@ module _ {M : Type 1} {𝓤 : Ura M} (𝓛 : Logic 𝓤) (κ : Lft) (x part : Mu
       feq_i ! (List ℕ) (drop-list k ys) back (rw e (drop_at w back k front)) $ fjoin ! $
       feq_i ! ℕ (length ys) n el $ fjoin ! $
       at_once ! $ show ! KeptBack ys $ done !))))
+
+module _ {M : Type 1} {𝓤 : Ura M} (𝓛 : Logic 𝓤) (κ : Lft) (x part : MutBor (List ℕ)) (m : ℕ) (digits : part.now ≡ shown m x.now) where
+  open 𝓛 use {H, A}
+
+  abbrev pub within : length part.now ≤ length x.now
+  within = rw digits (shown-fits m x.now)
+
+  pub print_kept_back :
+      ent 𝓤 (sep 𝓤 (A.dead κ) (sep 𝓤 (A.lent κ (Held u8 (length x.now) x.ref_ptr.0 x.ref_ptr.1 x.ghost_name)) (sem 𝓛 (keeps_from (length part.now) x part))))
+      (H.⇛ (ex 𝓤 (KeptBack 𝓛 κ x part (length part.now) within)))
+  print_kept_back = kept_back 𝓛 κ x part (length part.now) within

@@ -9,7 +9,7 @@ ghost use Rattle.std.specs.Prelude.{◌≡◌, ◌≤◌, ◌++◌, length, drop
 ghost use Rattle.decimal.specs.Spelling.{spelling, shown, printed};
 ghost use Rattle.decimal.specs.Reading.{no_leading_zero, read_as_number};
 ghost use Rattle.std.specs.Borrow.{sem};
-ghost use Rattle.decimal.specs.Scratch.{KeepsFrom};
+ghost use Rattle.decimal.specs.Scratch.{keeps_from};
 
 // What a field reads as.
 #[derive(Clone, Copy)]
@@ -66,7 +66,7 @@ fn no_leading_zero(field: &[u8]) -> bool
 pub fn print(n: u32, scratch: &mut [u8]) -> &mut [u8]
     ensures digits { result.now ≡ shown n scratch.old }
     ensures first { result.ref_ptr ≡ scratch.entry.ref_ptr }
-    ensures* rest { sem 𝓛 (KeepsFrom (length result.now) scratch.entry result) }
+    ensures* rest { sem 𝓛 (keeps_from (length result.now) scratch.entry result) }
 {
     let k = put(n, scratch);
     &mut scratch[..k]

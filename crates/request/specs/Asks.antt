@@ -2,12 +2,9 @@
 use Rattle.std.specs.Prelude.{ℕ, true, false, cond, List, ◌==◌, nat_lt}
 use Rattle.one_core.specs.declared.calls.Act.TheVariants as Act
 use Rattle.script.specs.declared.Call.{Call}
-use Rattle.script.specs.declared.Call.TheVariants as Call
 use Rattle.script.specs.declared.Line.{Line}
-use Rattle.script.specs.declared.Line.TheVariants as Line
 use Rattle.script.specs.declared.Columns.{Columns}
 use Rattle.script.specs.declared.Names.{Names}
-use Rattle.script.specs.declared.Names.TheVariants as Names
 use Rattle.script.specs.Line.{names, spells}
 use Rattle.request.specs.declared.Asked.{Asked}
 use Rattle.request.specs.declared.Asked.TheVariants.{Order, Refused, Setup, Commit, One}
