@@ -1,4 +1,4 @@
-# Read by applies.sh and knots.sh.
+# Read by applies.sh, edits.sh and knots.sh.
 
 # apply EDIT DIR: makes the edit's replacements in the files under DIR; says what is wrong with it, if anything is
 apply() {

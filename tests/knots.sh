@@ -1,6 +1,6 @@
 #!/usr/bin/env bash
-# Machines that are wrong in crates/core, definition, code and proofs alike, and in machine's rule where it says the same: core is proved,
-# and the claims about whole runs must refuse machine over it. tests/knots/*.edit are must-fail edits with paths that start at crates/.
+# Machines that are wrong in crates/one_core, definition, code and proofs alike, and in machine's rule where it says the same: one_core is
+# proved, and the claims about whole runs must refuse machine over it. tests/knots/*.edit are must-fail edits with paths that start at crates/.
 # '# claims: NAME NAME ..' names files of crates/machine/proofs, or declarations in them (FILE:declaration), and each must be refused by
 # itself, at a fact (tests/judge.sh). An edit may hold several wrong machines, none of which is refused where another must be: '# knot:
 # NAME: words' and a line of claims for each, and no claim twice; without '# knot:' it is one, named as its file, and its first line says
@@ -12,30 +12,26 @@ cd "$(dirname "$0")/.." || exit 1
 work=$(mktemp -d)
 trap 'rm -rf "$work"' EXIT
 
-# what each try starts from: the three crates, and objset proved
+# what each try starts from: the three crates, proved
 mkdir -p "$work/base/crates"
-cp -r crates/objset crates/core crates/machine "$work/base/crates"
-rm -rf "$work"/base/crates/*/must-fail "$work"/base/crates/*/guards
-grep -E '^(objset|core|machine):' crates.txt >"$work/base/crates.txt"
-for part in rlib stamp log; do
-  mkdir -p "$work/base/target/$part"
-  if [ -d "target/$part" ]; then find "target/$part" -maxdepth 1 -name 'objset*' -exec cp -r {} "$work/base/target/$part" \; ; fi
-done
-if ! (cd "$work/base" && rt check objset) >"$work/base.log" 2>&1; then
+tar -c --exclude=out --exclude=must-fail --exclude=guards crates/objset crates/one_core crates/machine | tar -x -C "$work/base"
+grep -E '^(objset|one_core|machine):' crates.txt >"$work/base/crates.txt"
+if ! (cd "$work/base/crates/machine" && rt check) >"$work/base.log" 2>&1; then
   cat "$work/base.log"
   echo "0 passed, 1 failed"
   exit 1
 fi
 
-# try EDIT: proves core with the edit and checks machine over it; says what is wrong, unless machine is refused
+# try EDIT: proves one_core with the edit and checks machine over it; says what is wrong, unless machine is refused
 try() {
   local copy
   copy=$work/$(basename "$1" .edit)
-  cp -r "$work/base" "$copy"
-  if grep '^file: ' "$1" | grep -qvE '^file: (core|machine)/'; then echo "it changes a file that is not of core or machine"; return; fi
+  mkdir "$copy"
+  tar -c -C "$work/base" --exclude=out crates crates.txt | tar -x -C "$copy"
+  if grep '^file: ' "$1" | grep -qvE '^file: (one_core|machine)/'; then echo "it changes a file that is not of one_core or machine"; return; fi
   apply "$1" "$copy/crates" || return
-  (cd "$copy" && RT_CUT=0 RT_JOBS=1 rt check core) >"$copy/core.log" 2>&1 || { echo "core is refused"; grep -m 3 ': error' "$copy/core.log"; return; }
-  if (cd "$copy" && RT_CUT=0 RT_JOBS=1 rt check machine) >"$copy/machine.log" 2>&1; then echo "machine is still proved"; return; fi
+  (cd "$copy/crates/one_core" && rt check --jobs 1) >"$copy/one_core.log" 2>&1 || { echo "one_core is refused"; grep -m 3 ': error' "$copy/one_core.log"; return; }
+  if (cd "$copy/crates/machine" && rt check --jobs 1) >"$copy/machine.log" 2>&1; then echo "machine is still proved"; return; fi
   grep -q '^logic=not-proved' "$copy/machine.log" || { echo "machine did not reach the prover"; head -n 5 "$copy/machine.log"; }
 }
 
@@ -76,7 +72,7 @@ flush() {
         echo "$wrong"
       fi
     done
-    for name in core machine; do
+    for name in one_core machine; do
       if [ -n "${KEEP:-}" ] && [ -f "$work/$label/$name.log" ]; then cp "$work/$label/$name.log" "$KEEP/$label.$name.log"; fi
     done
     rm -rf "${work:?}/$label"

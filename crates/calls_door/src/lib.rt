@@ -6,9 +6,9 @@
 
 ghost use Rattle.std.specs.Prelude.{◌≡◌, ◌<◌, length, ◌≢◌};
 
-use one_core::{Answer, CORES, Core, JOBS, Job};
 use machine::{Machine, Outcome};
 use objset::OBJECTS;
+use one_core::{Answer, CORES, Core, JOBS, Job};
 
 // How a record stands in words: five numbers of the machine, its cores, the versions. A core: its jobs, each a number and a deadline,
 // then count, active, owner, aborts, ticket, zombie, and the read set and the write set, the lower half of each first. A field that is

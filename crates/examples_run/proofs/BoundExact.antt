@@ -1,7 +1,7 @@
 -- The bound of demand 3 is exact: (k + 1) × (L + 2) rounds are enough, as the claim says (machine's `whole_run`), and one round fewer
 -- is not. The run that shows it for k = 1 and L = 1 is the tight run of Played.antt, whose words stand in WordsTable.antt; others are
 -- those of TightRuns.antt.
-use Rattle.std.proofs.Common.{◌≡◌, ℕ, suc, ◌+◌, ◌-◌, ◌*◌, ◌<◌, ◌≤◌, Bool, true, false, leb, List, [], ◌∷◌, ◌++◌, length, replicate, sym, refl, ◌∙◌, arith, leb-false, leb-true}
+use Rattle.std.proofs.Common.{◌≡◌, ℕ, suc, ◌+◌, ◌-◌, ◌*◌, ◌<◌, Bool, true, false, leb, List, [], ◌∷◌, ◌++◌, length, replicate, sym, refl, arith, leb-false, leb-true}
 use Rattle.objset.specs.Objset.{has, collect, some, each, none, is_empty, added, joined, meeting, below}
 use Rattle.one_core.specs.declared.Answer.TheVariants.{Ready}
 use Rattle.one_core.specs.Parts.{most_cores, least, running}

@@ -2,7 +2,7 @@
 -- document 01, and a tight run, in which a transaction stays in progress as long as the claim lets it.
 use Rattle.std.proofs.Common.{◌≡◌, ℕ, ◌*◌, List, [], ◌∷◌, ◌++◌, map, length, drop, replicate, refl}
 use Rattle.objset.specs.Objset.{has, collect, some, each, none, is_empty, added, joined, meeting, below}
-use Rattle.one_core.specs.declared.Answer.TheVariants.{Ready, Running, Begun, Value, Written, Waits, Committed, SetBack, Ended, Refused}
+use Rattle.one_core.specs.declared.Answer.TheVariants.{Running, Begun, Value, Written, Waits, Committed, SetBack, Ended, Refused}
 use Rattle.one_core.specs.Parts.{least, running}
 use Rattle.one_core.specs.Calls.{first}
 use Rattle.one_core.specs.Life.{struck_by}
