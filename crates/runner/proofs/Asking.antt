@@ -11,15 +11,11 @@ use Rattle.machine.specs.OneCore.{call_of}
 use Rattle.machine.specs.declared.Machine.{Machine}
 use Rattle.machine.specs.declared.Outcome.{Outcome}
 use Rattle.script.specs.declared.Call.{Call}
-use Rattle.script.specs.declared.Call.TheVariants as Call
 use Rattle.script.specs.declared.Line.{Line}
-use Rattle.script.specs.declared.Line.TheVariants as Line
 use Rattle.script.specs.declared.Columns.{Columns}
 use Rattle.script.specs.declared.Names.{Names}
-use Rattle.script.specs.declared.Names.TheVariants as Names
 use Rattle.script.specs.Line.{names, spells}
 use Rattle.request.specs.declared.Asked.{Asked}
-use Rattle.request.specs.declared.Asked.TheVariants as Asked
 use Rattle.request.specs.Asks.{most_lines, of_names, made, unfounded, of_line, asks}
 use Rattle.runner.specs.Listing.{nothing, Anew, Asks, request, met, answered}
 

@@ -6,7 +6,6 @@ use Rattle.one_core.specs.declared.Answer.{Answer}
 use Rattle.one_core.specs.declared.Answer.TheVariants.{Refused}
 use Rattle.script.specs.declared.Columns.{Columns}
 use Rattle.script.specs.declared.Names.{Names}
-use Rattle.script.specs.declared.Names.TheVariants as Names
 use Rattle.table.specs.Pieces.{lines}
 use Rattle.script.specs.Line.{names, spells}
 use Rattle.listing.specs.Text.{line, said}

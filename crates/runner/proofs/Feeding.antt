@@ -13,9 +13,7 @@ use Rattle.one_core.specs.declared.Answer.TheVariants.{Ready}
 use Rattle.listing.specs.Text.{line, fitting, put}
 use Rattle.runner.specs.declared.Reading.{Reading}
 use Rattle.request.specs.declared.Asked.{Asked}
-use Rattle.request.specs.declared.Asked.TheVariants as Asked
 use Rattle.request.specs.Asks.{most_lines, asks}
-use Rattle.runner.specs.Listing.{nothing}
 use Rattle.runner.specs.Kept.{held, listed_from, unfinished, rest, BlankOrSound, ReadingFits, KeptState, state, past_line, after_byte, fed}
 use Rattle.runner.proofs.Asking.{lists, goes, ordered, outcome}
 use Rattle.runner.proofs.LineLaws.{byte-lost, text, Leads, line-leads}

@@ -44,6 +44,8 @@ run-lists s [] [] last (ends e) = e
 run-lists s (chunk ∷ chunks) (output ∷ outputs) last (feeds s' e run) =
     append_assoc output (flatten outputs) last
     ∙ ap (λ (x : List ℕ). output ++ x) (run-lists s' chunks outputs last run) ∙ sym (e (flatten chunks))
+run-lists s [] (output ∷ outputs) last run = elim run [ ]
+run-lists s (chunk ∷ chunks) [] last run = elim run [ ]
 
 -- from what is to be listed at the start: however the script is cut into chunks, the heading and the outputs together are its listing
 pub any-cut : (s : KeptState) (chunks outputs : List (List ℕ)) (last : List ℕ) → ((bytes : List ℕ) → left s bytes ≡ listed (rows bytes))

@@ -5,7 +5,6 @@ use Rattle.machine.specs.Rule.{World}
 use Rattle.one_core.specs.declared.Answer.TheVariants.{Refused}
 use Rattle.script.specs.declared.Columns.{Columns}
 use Rattle.script.specs.declared.Names.{Names}
-use Rattle.script.specs.declared.Names.TheVariants as Names
 use Rattle.table.specs.Pieces.{lines, pieces, onto, without_last_empty, free}
 use Rattle.table.specs.Fields.{fields_of, place, all_stand, columns, columns_of}
 use Rattle.script.specs.Line.{names, spells, ordered as in_order}
@@ -13,7 +12,6 @@ use Rattle.script.proofs.Laws.{too_long, names-too-long}
 use Rattle.table.proofs.Laws.{lines-begun, lines-last, some-piece, first, others, rest-of-line, later-lines}
 use Rattle.listing.specs.Text.{line}
 use Rattle.request.specs.declared.Asked.{Asked}
-use Rattle.request.specs.declared.Asked.TheVariants as Asked
 use Rattle.request.specs.Asks.{most_lines, of_names, of_line, asks}
 use Rattle.runner.specs.Listing.{nothing, answered, value_rows, rows_after, rows_of, listed}
 use Rattle.runner.specs.Kept.{listed_from, line_end, names_end}

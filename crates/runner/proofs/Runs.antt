@@ -6,15 +6,12 @@ use Rattle.machine.specs.Rule as Rule
 use Rattle.machine.specs.Rule.{World, Result, rule}
 use Rattle.machine.specs.Words.{Event}
 use Rattle.machine.specs.Claims.{Run, fresh, then, Claim, worked}
-use Rattle.one_core.specs.declared.Answer.{Answer}
 use Rattle.one_core.specs.declared.Answer.TheVariants.{Ready}
 use Rattle.machine.proofs.Run.WholeRun.{whole_run}
 use Rattle.script.specs.declared.Call.{Call}
-use Rattle.script.specs.declared.Call.TheVariants as Call
 use Rattle.script.specs.declared.Line.{Line}
 use Rattle.script.specs.declared.Line.TheVariants.{Spells, Malformed}
 use Rattle.script.specs.declared.Names.{Names}
-use Rattle.script.specs.declared.Names.TheVariants as Names
 use Rattle.script.specs.declared.Columns.{Columns}
 use Rattle.script.specs.Line.{names, spells}
 use Rattle.table.specs.Pieces.{lines}

@@ -5,7 +5,6 @@ use Rattle.machine.specs.Claims.{Claim, worked}
 use Rattle.one_core.specs.declared.Answer.{Answer}
 use Rattle.one_core.specs.declared.Answer.TheVariants.{Ready}
 use Rattle.script.specs.declared.Call.{Call}
-use Rattle.script.specs.declared.Call.TheVariants as Call
 use Rattle.script.specs.declared.Line.{Line}
 use Rattle.script.specs.declared.Line.TheVariants.{Spells, Malformed}
 use Rattle.script.specs.declared.Columns.{Columns}

@@ -5,13 +5,13 @@ ghost use Rattle.runner.specs.Kept.{ReadingFits, line_room, rest, state, fed, at
 
 use crate::setup::set_up;
 use crate::{Fed, KEPT_BYTES, Reading};
+use listing::put_line;
+use machine::inside::calls::{find, find_core};
+use machine::inside::commit::{ahead_of, reach_of, write_back};
 use one_core::Answer;
 use one_core::calls::{Seen, object_of};
 use one_core::inside::calls::{act_on, settle};
 use one_core::inside::transaction::{abort, is_struck};
-use listing::put_line;
-use machine::inside::calls::{find, find_core};
-use machine::inside::commit::{ahead_of, reach_of, write_back};
 use request::{Asked, end_line};
 
 // The next bytes of the script. The output needs 32 bytes for each of them; what is written is what the chunk adds to the listing, and
