@@ -1,5 +1,5 @@
 -- The heading fits the buffer, and the runner starts fit.
-use Rattle.std.proofs.Common.{◌≡◌, ◌≤◌, length, refl, sym, ap, ◌∙◌, arith, length-take-le}
+use Rattle.std.proofs.Common.{length, refl, sym, ap, ◌∙◌, arith, length-take-le}
 use Rattle.listing.specs.Text.{heading}
 use Rattle.listing.proofs.Laws.{fitting-whole}
 use Rattle.runner.proofs.Laws.{start-fit}
@@ -14,4 +14,4 @@ pub slice_bounds-written-end : goal.slice_bounds-written-end
 slice_bounds-written-end g c = sym (length-take-le _ _ (slice_bounds-output-end g c.before))
 
 pub run-requires : goal.run-requires
-run-requires g c = ?
+run-requires g c = (start-fit _ _ _ c.start-reading.ensures refl refl, omega (arith, c.put_heading-k.auto.output))
