@@ -3,8 +3,10 @@
 # the crates and the crate checked there, and each thing that the edit makes wrong must be refused by itself, at a fact (tests/judge.sh),
 # and not merely because something beneath it is. The first line of an edit says in words what wrong program it makes; '# wrong: NAME NAME
 # ..' names the wrong functions, each by its path in the crate, and '# claims: FILE:DECLARATION ..' (or FILE) the laws that must refuse a
-# wrong definition, in its proofs. An edit that names nothing, or was not tried, is a failure, and so is a crate that is not proved as it
-# stands. RT_JOBS edits at a time, 4 where nothing is said. Ends in 'N passed, M failed': N names so refused.
+# wrong definition, in its proofs. Where a law is refused, what is proved by it is not looked at; so a function that an edit of definitions and
+# code hides in this way is judged once more with the edit's code and contracts alone, over the definitions as they stand. An edit that names
+# nothing, or was not tried, is a failure, and so is a crate that is not proved as it stands. RT_JOBS edits at a time, 4 where nothing is said.
+# Ends in 'N passed, M failed': N names so refused.
 # Usage: tests/edits.sh [DIR [NAME ..]], where DIR holds crates/ and crates.txt (make guards: a copy with the guards for must-fail edits) and
 # each NAME is a crate; KEEP=DIR keeps the logs there
 set -u
@@ -27,9 +29,16 @@ fault() {
   echo "$1: $2"
 }
 
-# try EDIT CRATE COPY: checks the crate in the copy with the edit; says what is wrong, unless it is refused by the prover
+# copied COPY: a copy of the crates, of which nothing is checked
+copied() {
+  mkdir "$1"
+  tar -c -C "$work/base" --exclude=out --exclude=must-fail crates crates.txt | tar -x -C "$1"
+}
+
+# try EDIT CRATE COPY: checks the crate in a copy with the edit; says what is wrong, unless it is refused by the prover
 try() {
   local status
+  copied "$3"
   apply "$1" "$3/crates/$2" || return
   (cd "$3/crates/$2" && rt check --jobs 1) >"$3/log" 2>&1
   status=$?
@@ -39,6 +48,16 @@ try() {
   if grep -qE "^(\./)?(src|specs)/[^ ]*: error: .*($form)" "$3/log"; then
     echo "the prover cannot read it: $(grep -m 1 -E "^(\./)?(src|specs)/[^ ]*: error: .*($form)" "$3/log")"
   fi
+}
+
+# alone EDIT CRATE COPY FUNCTION: where the function is refused with the edit's code and contracts alone
+alone() {
+  if [ ! -d "$3.code" ]; then
+    awk '/^file: / { specs = $2 ~ /^specs\// } !specs' "$1" >"$3.edit"
+    if ! grep -q '^file: specs/' "$1" || ! grep -q '^file: src/' "$3.edit"; then return; fi
+    try "$3.edit" "$2" "$3.code" >"$3.said"
+  fi
+  unproved "$3.code/log" "$2" "$4"
 }
 
 # judge EDIT CRATE COPY: counts the names of the edit that are refused by themselves
@@ -60,10 +79,10 @@ judge() {
   fi
   refused=$((refused + 1))
   for name in $functions; do
-    if [ -n "$(unproved "$3/log" "$2" "$name")" ]; then
-      passed=$((passed + 1))
-    else
+    if [ -z "$(unproved "$3/log" "$2" "$name")" ] && [ -z "$(alone "$1" "$2" "$3" "$name")" ]; then
       fault "$1" "$2::${name//\//::} is not refused by itself, at a fact"
+    else
+      passed=$((passed + 1))
     fi
   done
   for claim in $claims; do
@@ -87,7 +106,7 @@ flush() {
     label=$crate.$(basename "$edit" .edit)
     judge "$edit" "$crate" "$work/$label"
     if [ -n "${KEEP:-}" ] && [ -f "$work/$label/log" ]; then cp "$work/$label/log" "$KEEP/$label.log"; fi
-    rm -rf "${work:?}/$label"
+    rm -rf "${work:?}/$label" "${work:?}/$label.code"
   done
   batch=()
 }
@@ -105,8 +124,6 @@ for folder in crates/*/must-fail; do
     [ -f "$edit" ] || continue
     tried=$((tried + 1))
     copy=$work/$crate.$(basename "$edit" .edit)
-    mkdir "$copy"
-    tar -c -C "$work/base" --exclude=out --exclude=must-fail crates crates.txt | tar -x -C "$copy"
     try "$edit" "$crate" "$copy" >"$copy.said" 2>&1 &
     batch+=("$edit")
     [ "${#batch[@]}" -lt "$jobs" ] || flush

@@ -75,7 +75,7 @@ def own_names():
     """The names to turn: those in camel case of specs/ and proofs/, and the fields of specs/ with a dash."""
     turned = dict(ALIASES)
     for path in files(".antt"):
-        lemmas = re.search(r"/specs/|/proofs/(\w+/)*\w+\.antt$", path) and os.path.basename(path) not in ("Proof.antt", "Answers.antt", "Invariants.antt")
+        lemmas = re.search(r"/specs/|/proofs/(\w+/)*\w+\.antt$", path) and not re.search(r"/proofs/.*/(Proof|Answers|Invariants)\.antt$", path)
         for line in read(path).split("\n"):
             m = DECLARED.match(line)
             if not m:

@@ -4,7 +4,8 @@ use Prim.Native.Nat.{ℕ, zero, suc, ◌+◌, ◌-◌, ◌≤◌}
 use native.Mathlib.Omega.{arith}
 use mathlib.Core.Bool.{Bool, true, false}
 use mathlib.Core.List.{List, [], ◌∷◌, ◌++◌}
-use lib.ListN.{length, get_or, drop, replicate, length-append, length-replicate, replicate-append-replicate}
+use lib.Seq.{take-append_seam, drop-append_seam}
+use lib.ListN.{length, get_or, take, drop, replicate, length-append, length-replicate, replicate-append-replicate}
 use Rattle.taskset.specs.declared.Task.{Task}
 use Rattle.tasklist.specs.Lists.{have_room, fill_given, filled_list}
 use Rattle.tasklist.proofs.ListLaws.{fills, fills-list, refuses, keeps-list}
@@ -21,6 +22,15 @@ marks-apart n h = sym (replicate-append-replicate n (40 - n) mark ∙ ap (λ (k 
   where
     whole : n + (40 - n) ≡ 40
     whole = omega (arith, h)
+
+-- the places that are lent, and the others
+pub marks-lent : (n : ℕ) → n ≤ places → take n (replicate 40 mark) ≡ marks n
+marks-lent n h =
+    rw (marks-apart n h) (ap (λ (k : ℕ). take k (marks n ++ marks (places - n))) (sym (marks-long n)) ∙ take-append_seam (marks n) (marks (places - n)))
+
+pub marks-kept : (n : ℕ) → n ≤ places → drop n (replicate 40 mark) ≡ marks (places - n)
+marks-kept n h =
+    rw (marks-apart n h) (ap (λ (k : ℕ). drop k (marks n ++ marks (places - n))) (sym (marks-long n)) ∙ drop-append_seam (marks n) (marks (places - n)))
 
 -- and stays as long
 pub whole_long : (n : ℕ) → n ≤ places → (us : List Task) → length us ≡ length (marks n) → length (us ++ marks (places - n)) ≡ 40

@@ -127,10 +127,14 @@ or-zero a b = go (eqb a 0) refl (eqb b 0) refl
     go true s q t = ap (λ (x : ℕ). eqb (bit_or x b) 0) (eqb-true a 0 s) ∙ ap (λ (x : ℕ). eqb x 0) (or_zero_l b) ∙ t
     go false s q t = ne_eqb (bit_or a b) 0 (λ z. eqb-false a 0 s (omega (arith, z, or_add_and a b, and_le_r a b)))
 
--- one more job is looked at, before what was already joined
-pub each_next : (n : ℕ) (f : ℕ → Bool) (a : Bool) → (f n && (each n f && a)) ≡ (each (n + 1) f && a)
+-- one more job is looked at
+pub each_next : (n : ℕ) (f : ℕ → Bool) → (f n && each n f) ≡ each (n + 1) f
 unfolding each
-each_next n f a = go (f n) ∙ ap (λ (x : ℕ). each x f && a) (sym (add-one n))
+each_next n f = ap (λ (x : ℕ). each x f) (sym (add-one n))
+
+-- so it is before what was already joined
+pub each_next-joined : (n : ℕ) (f : ℕ → Bool) (a : Bool) → (f n && (each n f && a)) ≡ (each (n + 1) f && a)
+each_next-joined n f a = go (f n) ∙ ap (λ (b : Bool). b && a) (each_next n f)
   where
     go : (b : Bool) → (b && (each n f && a)) ≡ (b && each n f && a)
     go true = refl

@@ -8,7 +8,7 @@ use Rattle.one_core.specs.declared.Core.{Core}
 use Rattle.one_core.specs.Parts.{no_job}
 use Rattle.one_core.specs.Tidy.{zero_job}
 use Rattle.one_core.proofs.TestLaws.{each_none}
-use Rattle.one_core.proofs.TidyLaws.{job-zero, or-zero, each_next, numbers, no_numbers, not-blank-active, not-blank-marked, not-blank-number, blank-by-sets}
+use Rattle.one_core.proofs.TidyLaws.{job-zero, or-zero, each_next-joined, numbers, no_numbers, not-blank-active, not-blank-marked, not-blank-number, blank-by-sets}
 use Rattle.one_core.proofs.soundness.is_blank.Goals as goal
 use Rattle.one_core.proofs.soundness.is_blank.Goals.{After-loop-p, At-loop-p}
 
@@ -24,7 +24,7 @@ loop-p-preserved c =
     let j = get_or (tested (goal.at.loop-p-preserved c).At-loop-p).jobs c.loop-p.p no_job in (
       omega arith,
       or-zero (j.number + j.deadline * 4294967296) c.loop-p.all ∙ ap₂ ◌&&◌ (job-zero j.number j.deadline) c.loop-p.invariant.1
-          ∙ each_next c.loop-p.p _ _,
+          ∙ each_next-joined c.loop-p.p _ _,
     )
 
 -- what was joined tells of every number
