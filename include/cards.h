@@ -59,8 +59,8 @@ extern "C" {
 #define CARDS_OUTPUT_MOST 29000047
 
 /* So many bytes of the caller's stack are enough for a call of any of the functions, 64 KiB. The need does not grow with the script or the
- * sheet. It is measured by the test of host/ (build/cards_host selftest prints it) and not proved: 34,856 bytes below the caller's frame
- * where a script is run once, 34,904 where it is run twice, 34,904 where the listing does not fit; 3,488 for the levels of a sheet. */
+ * sheet. It is measured by the test of host/ (build/cards_host selftest prints it) and not proved: 33,120 bytes below the caller's frame
+ * where a script is run once, 33,168 where it is run twice, 33,168 where the listing does not fit; 2,912 for the levels of a sheet. */
 #define CARDS_STACK_ENOUGH 65536
 
 /* Runs the script and writes its listing to the output.
@@ -97,10 +97,10 @@ extern "C" {
  * then unknown, and nothing else is lost.
  *
  * Cost. The time grows with the script's length; nothing is waited for. Into an output that is CARDS_OUTPUT_ENOUGH for its lines the script
- * is run once; for a smaller one it is run to find the length of its listing and, if that fits, a second time to write it. As counted with
- * this toolchain, a run costs about 24,000 instructions at the least and, for a contended script, 759 a line on 4 cores and 768 on 16
- * (docs/BENCHMARKS.md). The dearest lines that were tried: setup of 16 cores and 64 cards 5,800, a commit of 64 cards that sets back 15
- * others 1,900, a refused setup 1,700; a byte of a line of more than 64 bytes about 10. */
+ * is run once; for a smaller one it is run to find the length of its listing and, if that fits, a second time to write it. The instructions
+ * in this file were counted with an older toolchain, and are not counted again. A run costs about 24,000 at the least and, for a contended
+ * script, 759 a line on 4 cores and 768 on 16 (docs/BENCHMARKS.md). The dearest lines that were tried: setup of 16 cores and 64 cards 5,800,
+ * a commit of 64 cards that sets back 15 others 1,900, a refused setup 1,700; a byte of a line of more than 64 bytes about 10. */
 size_t cards_run(const uint8_t *script, size_t script_length, uint8_t *output, size_t output_length);
 
 /* ---- Job sheets
@@ -161,9 +161,8 @@ size_t cards_run(const uint8_t *script, size_t script_length, uint8_t *output, s
  *   - sheet and levels do not overlap, and nobody else writes to either during the call;
  *   - CARDS_STACK_ENOUGH bytes of stack are left.
  *
- * Cost. The time grows with the sheet's length; nothing is waited for. As counted with this toolchain, a call costs about 7,400 instructions
- * for the six tasks of table 6.1, 54,000 to 68,000 for 32 tasks with up to 3 cards each, and 249,000 for 32 tasks with all 64 cards
- * (docs/BENCHMARKS.md). */
+ * Cost. The time grows with the sheet's length; nothing is waited for. A call costs about 7,400 instructions for the six tasks of table
+ * 6.1, 54,000 to 68,000 for 32 tasks with up to 3 cards each, and 249,000 for 32 tasks with all 64 cards (docs/BENCHMARKS.md). */
 size_t cards_levels(const uint8_t *sheet, size_t sheet_length, uint32_t *levels, size_t words);
 
 /* ---- The shipped sheet: table 6.1 of source document 002, tasks 1 to 6 on cores 0 to 5, for firmware that has no sheet to read */
