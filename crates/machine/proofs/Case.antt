@@ -1,6 +1,6 @@
 -- What a call that follows the rule can have done: the cases of the rule with the conditions that led to each, so that proofs
 -- about runs go by these cases and never open the rule again.
-use Rattle.std.proofs.Common.{◌≡◌, ℕ, zero, suc, ◌*◌, ◌<◌, ◌≤◌, Bool, true, false, cond, not, ◌&&◌, ◌||◌, eqb, ltb, List, [], ◌∷◌, length, sym, refl, ap, ◌∙◌, ap₂, subst₂, true≢false, ltb-false, ltb-true, eqb-true, leb-false}
+use Rattle.std.proofs.Common.{◌≡◌, ℕ, zero, suc, ◌*◌, ◌<◌, ◌≤◌, Bool, true, false, cond, not, ◌&&◌, ◌||◌, eqb, ltb, List, [], ◌∷◌, length, sym, refl, ap, ◌∙◌, ap₂, true≢false, ltb-false, ltb-true, eqb-true, leb-false}
 use borrow.Author.Tests.{eqb-false, not-true, not-false}
 use Rattle.objset.specs.Objset.{meeting}
 use Rattle.objset.proofs.Laws.{both_left, both_right, one-some, one-filled, meeting-one}
@@ -13,8 +13,7 @@ use Rattle.machine.specs.Record.{core_at, active_at, sizes_in_range, blank}
 use Rattle.one_core.specs.Parts.{data_set}
 use Rattle.machine.specs.Sound.{sound}
 use Rattle.machine.specs.Answers.{kind}
-use Rattle.machine.specs.Follows.{Follows}
-use Rattle.machine.specs.Rule.{World, Result, lent, with_machine, unless, unless_lent, sizes_out_of_range, misfit, new_world, setup, unsound, wrong_tables, no_such_core, no_such_object, full_list, jobless, tickets_spent, released, release, begun, begin, set_back_told, access_refusal, valued, read, written, write, contender, blocked, must_wait, first_ahead, through, waiting, commit_refusal, commit, ended, give_up, finished, finish, rule, Call, Release, Begin, Read, Write, Commit, GiveUp, Finish}
+use Rattle.machine.specs.Rule.{World, Result, lent, with_machine, unless, unless_lent, sizes_out_of_range, misfit, new_world, setup, unsound, wrong_tables, no_such_core, no_such_object, full_list, jobless, tickets_spent, released, release, begun, begin, set_back_told, access_refusal, valued, read, written, write, contender, blocked, must_wait, first_ahead, through, waiting, commit_refusal, commit, ended, give_up, finished, finish, Call, Release, Begin, Read, Write, Commit, GiveUp, Finish}
 use Rattle.one_core.specs.Calls.{first}
 use Rattle.one_core.specs.Life.{is_read_only, conflicting, is_struck}
 use Rattle.machine.proofs.Refusals.{passed}
@@ -273,21 +272,6 @@ commit-case w c = go (commit_refusal w c) refl (core_at m c).zombie refl (must_w
         unfold unless_lent in is-waiting (commit-ok w c t) z wrote (first-ahead m c (both_right (not (is_read_only (core_at m c))) (blocked m c) u))
     go zero t false z false u = unfold unless_lent in is-through (commit-ok w c t) z u
     go (suc n) t z y b u = unfold unless_lent in is-refused
-
--- a call that follows the rule is one of the cases
-pub case-of : {w : World} {call : Call} {a : Answer} {w' : World} → Follows w call a w' → Case w call a w'
-unfolding rule
-case-of {w} {call} {a} {w'} f =
-    subst₂ (λ (b : Answer) (v : World). Case w call b v) (sym f.answer_is) (sym f.world_is) (go call)
-  where
-    go : (x : Call) → Case w x (rule w x).answer (rule w x).world
-    go (Release c number deadline) = release-case w c number deadline
-    go (Begin c) = begin-case w c
-    go (Read c d) = read-case w c d
-    go (Write c d v) = write-case w c d v
-    go (Commit c) = commit-case w c
-    go (GiveUp c) = give-up-case w c
-    go (Finish c) = finish-case w c
 
 -- ---- setup
 

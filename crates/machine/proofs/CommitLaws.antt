@@ -134,7 +134,7 @@ module _ (w : World) where
   settle-stays c k a =
       rw (
         strikes-none none (set m.core c k) none-empty,
-        changed-none (λ d v. v + 1) 0 m.versions,
+        changed-none _ 0 m.versions,
         changed-none (moved w c) 0 w.committed,
         no_more m.commits,
       )

@@ -6,7 +6,7 @@ use Rattle.machine.specs.declared.Outcome.{Outcome}
 use Rattle.one_core.specs.declared.Answer.TheVariants.{Ready}
 use Rattle.machine.specs.Inside.{WellFormedWorld}
 use Rattle.machine.specs.Rule.{Result, lent, left, setup, commit}
-use Rattle.machine.proofs.Case.{case-of}
+use Rattle.machine.proofs.CaseOf.{case-of}
 use Rattle.machine.proofs.Binds.{commit-follows}
 use Rattle.machine.proofs.Sound.Keeps.{keeps-good, setup-good}
 

@@ -19,6 +19,7 @@ mod Effects
 pub mod Places
 mod CoreAgrees
 mod Agreement
+mod VersionsLeft
 mod AgreementCommit
 mod Steps
 mod ReadOnly

@@ -19,6 +19,7 @@ use Rattle.machine.proofs.Run.Effects.{last_write, effect-long}
 use Rattle.machine.proofs.Entries.{cleared_at, cleared-long, changed-at, changed-long}
 use Rattle.machine.proofs.Run.CoreAgrees.{CoreAgrees, agrees-idle, agrees-struck, meets-crosses, void-crosses, eqb-sym}
 use Rattle.machine.proofs.Run.Order.{born-apart}
+use Rattle.machine.proofs.Run.VersionsLeft.{versions-left}
 use Rattle.machine.proofs.Run.Agreement.{Agree, inside, acting, read-alone}
 
 module _ {o : ℕ} {w : World} {h : List Deed} (a : Agree o w h) (c : ℕ) (ok : Lent-ok w c) where
@@ -103,18 +104,6 @@ module _ {o : ℕ} {w : World} {h : List Deed} (a : Agree o w h) (c : ℕ) (ok :
           changed-at ws (Rule.moved w c) w.committed d l
           ∙ read-alone a c d ok (rw (← ok.committed_long) l)
 
-  -- the versions count the commits that wrote
-  versions-left : (d : ℕ) → d < o
-      → get_or (Rule.changed ws (λ e v. v + 1) 0 w.machine.versions) d 0 ≡ cond (wrote (attempt h c) d) 1 0 + version h d
-  versions-left d l =
-      changed-at ws (λ e v. v + 1) w.machine.versions d (omega (arith, a.versions_long, a.objects-few))
-      ∙ ap (λ (q : Bool). cond q (get_or w.machine.versions d 0 + 1) (get_or w.machine.versions d 0)) ((a.each-core c).same_writes d)
-      ∙ go (wrote (attempt h c) d)
-    where
-      go : (q : Bool) → cond q (get_or w.machine.versions d 0 + 1) (get_or w.machine.versions d 0) ≡ cond q 1 0 + version h d
-      go true = omega (arith, a.same_versions d l)
-      go false = omega (arith, a.same_versions d l)
-
   pub step-commits : Agree o (Rule.through w c).world (commits c n ∷ h)
   unfolding Rule.through births serial version wrote any
   step-commits =
@@ -128,7 +117,7 @@ module _ {o : ℕ} {w : World} {h : List Deed} (a : Agree o w h) (c : ℕ) (ok :
         each-core = cores-left;
         same-committed = cards-left;
         same-pending = λ e d l t. words e d l (eqb c e) refl t;
-        same_versions = versions-left;
+        same_versions = versions-left a c;
       }
     where
       x : Deed

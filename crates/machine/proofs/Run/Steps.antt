@@ -12,7 +12,8 @@ use Rattle.one_core.specs.Parts.{no_core, blank_core}
 use Rattle.machine.specs.Record.{core_at, machine_of, sizes_in_range}
 use Rattle.machine.specs.Rule as Rule
 use Rattle.machine.specs.Rule.{World, Call}
-use Rattle.machine.proofs.Case.{Case, is-refused, is-released, is-begun, is-told, is-valued, is-written, is-waiting, is-through, is-ended, is-finished, contends, First, case-of}
+use Rattle.machine.proofs.CaseOf.{case-of}
+use Rattle.machine.proofs.Case.{Case, is-refused, is-released, is-begun, is-told, is-valued, is-written, is-waiting, is-through, is-ended, is-finished, contends, First}
 use Rattle.machine.specs.Words.{Event, Deed, amounts, deeds, in_progress, births, born, any, wrote, conflict, attempt, struck, set_backs}
 use Rattle.machine.specs.Serial.{serial, version}
 use Rattle.machine.specs.Claims.{Run, fresh, then}

@@ -6,7 +6,8 @@ use Rattle.one_core.specs.declared.Answer.TheVariants.{Ready, Value}
 use Rattle.machine.specs.Rule as Rule
 use Rattle.machine.specs.Rule.{World, lent, left, Call, Read, Commit, rule}
 use Rattle.machine.specs.Follows.{Follows}
-use Rattle.machine.proofs.Case.{Case, is-refused, is-released, is-begun, is-told, is-valued, is-written, is-waiting, is-through, is-ended, is-finished, case-of, setup-case}
+use Rattle.machine.proofs.CaseOf.{case-of}
+use Rattle.machine.proofs.Case.{Case, is-refused, is-released, is-begun, is-told, is-valued, is-written, is-waiting, is-through, is-ended, is-finished, setup-case}
 use Rattle.machine.specs.Words.{Event, Deed, deeds}
 use Rattle.machine.specs.Serial.{serial, version}
 use Rattle.machine.specs.Claims.{Run, fresh, then, worked, ByTheRule, Claim, EveryRun}

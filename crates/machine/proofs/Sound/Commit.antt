@@ -2,13 +2,12 @@
 -- so the sum of setbacks and earlier tickets rises for none.
 use Rattle.std.proofs.Common.{◌≡◌, ℕ, ◌+◌, ◌<◌, ◌≤◌, Bool, true, false, cond, eqb, ltb, List, get_or, sym, refl, ◌∙◌, subst, arith, lt-ltb, eqb-true}
 use borrow.Author.Tests.{eqb-false}
-use Rattle.objset.specs.Objset.{has}
 use Rattle.objset.proofs.Laws.{both_left}
 use Rattle.machine.specs.declared.Machine.{Machine}
 use Rattle.one_core.specs.declared.Core.{Core}
 use Rattle.one_core.specs.Parts.{no_core}
 use Rattle.machine.specs.Record.{core_at}
-use Rattle.machine.specs.Rule.{must_wait, cleared, changed, through}
+use Rattle.machine.specs.Rule.{must_wait, cleared, through}
 use Rattle.one_core.specs.Life.{is_struck, struck_by, over}
 use Rattle.machine.proofs.Case.{not-ahead}
 use Rattle.machine.proofs.Sound.Turns.{Turns, turns-left}
@@ -17,8 +16,9 @@ use Rattle.machine.specs.Inside.{Formed}
 use Rattle.one_core.proofs.Tidy.{Tidy}
 use Rattle.machine.proofs.Sound.Standing.{Standing}
 use Rattle.one_core.proofs.Kept.{idle-formed, over-tidy, struck-keeps, struck-aborts, struck-tidy, struck-formed}
-use Rattle.machine.proofs.Entries.{cleared_at, cleared-long, changed-at, changed-long}
+use Rattle.machine.proofs.Entries.{cleared_at, cleared-long, changed-long}
 use Rattle.machine.proofs.Sound.OneCore.{Whole}
+use Rattle.machine.proofs.Sound.Versions.{version-lacked, version-bounded}
 
 -- the transaction of core c has no contender or is read-only, so each one that its commit strikes has a later ticket
 pub struck-later : (m : Machine) (c e : ℕ) → Standing m → c < 16 → e < 16 → (e ≡ c → ⊥) → must_wait m c ≡ false → (core_at m c).active ≡ true
@@ -56,26 +56,6 @@ module _ (m : Machine) (c : ℕ) (here : c < m.cores) (w : Whole m) where
       go true t = subst (λ (x : ℕ). P x (over (core_at m x))) (sym (eqb-true e c t)) new
       go false t = old e l (eqb-false e c t)
 
-  abbrev versions-after : ℕ → ℕ
-  versions-after d = get_or (changed ws (λ x v. v + 1) 0 m.versions) d 0
-
-  -- a written card is one of the machine's, and no version rises by more than the commits do
-  version-lacked : (d : ℕ) → d < 64 → m.objects ≤ d → versions-after d ≡ 0
-  version-lacked d l h =
-      changed-at ws (λ x v. v + 1) m.versions d (omega (arith, f.versions_long)) ∙ go (has ws d) refl
-    where
-      go : (b : Bool) → has ws d ≡ b → cond b (get_or m.versions d 0 + 1) (get_or m.versions d 0) ≡ 0
-      go true e = absurd (omega (arith, (s.tidy c inside).writes-within d l e))
-      go false e = s.lacked-objects d l h
-
-  version-bounded : (d : ℕ) → d < 64 → versions-after d ≤ m.commits + 1
-  version-bounded d l =
-      omega (arith, changed-at ws (λ x v. v + 1) m.versions d (omega (arith, f.versions_long)), go (has ws d))
-    where
-      go : (b : Bool) → cond b (get_or m.versions d 0 + 1) (get_or m.versions d 0) ≤ m.commits + 1
-      go true = omega (arith, s.versions-bounded d l)
-      go false = omega (arith, s.versions-bounded d l)
-
   after-turns : must_wait m c ≡ false → (core_at m c).active ≡ true
       → Turns m.cores m.tickets (m.commits + 1 + m.give_ups) (λ e. (after e).active) (λ e. (after e).ticket) (λ e. (after e).aborts)
   after-turns free on =
@@ -97,7 +77,7 @@ module _ (m : Machine) (c : ℕ) (here : c < m.cores) (w : Whole m) where
       record {
         formed = record {
           core_long = cleared-long ws c 0 m.core ∙ f.core_long;
-          versions_long = changed-long ws (λ x v. v + 1) 0 m.versions ∙ f.versions_long;
+          versions_long = changed-long ws _ 0 m.versions ∙ f.versions_long;
           tickets_fit = f.tickets_fit;
           formed_core =
               after-each (λ e x. Formed-core x) (idle-formed (core_at m c).jobs (core_at m c).count (f.formed_core c inside).jobs_long)
@@ -114,8 +94,8 @@ module _ (m : Machine) (c : ℕ) (here : c < m.cores) (w : Whole m) where
           lacked-jobs =
               after-each (λ e x. m.cores ≤ e → x.count ≡ 0) (λ h. absurd (omega arith))
               (λ e l o h. struck-keeps (λ (x : Core). x.count) ws (core_at m e) refl ∙ s.lacked-jobs e l h);
-          lacked-objects = version-lacked;
+          lacked-objects = version-lacked m c f s inside;
           turns = after-turns free on;
-          versions-bounded = version-bounded;
+          versions-bounded = version-bounded m c f s inside;
         };
       }
