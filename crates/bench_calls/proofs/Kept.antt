@@ -4,7 +4,7 @@ use Rattle.machine.specs.declared.Machine.{Machine}
 use Rattle.machine.specs.Rule.{World, Result, lent, rule}
 use Rattle.machine.specs.Inside.{WellFormedWorld}
 use Rattle.machine.specs.OneCore.{call_of}
-use Rattle.machine.proofs.Case.{case-of}
+use Rattle.machine.proofs.CaseOf.{case-of}
 use Rattle.machine.proofs.Binds.{follows}
 use Rattle.machine.proofs.Sound.Keeps.{keeps-good}
 use Rattle.one_core.specs.declared.calls.Act.{Act}

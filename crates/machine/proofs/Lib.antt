@@ -15,7 +15,7 @@ pub mod BlankLaws
 pub mod Refusals
 mod Told
 pub mod Case
-mod CaseOf
+pub mod CaseOf
 pub mod Binds
 pub mod Sound
 pub mod Run

@@ -5,7 +5,7 @@ use Rattle.machine.specs.Rule.{World, Result, lent, rule, Call}
 use Rattle.machine.specs.Follows.{Follows}
 use Rattle.machine.specs.declared.Machine.{Machine}
 use Rattle.machine.specs.declared.Outcome.{Outcome}
-use Rattle.machine.proofs.Case.{case-of}
+use Rattle.machine.proofs.CaseOf.{case-of}
 use Rattle.machine.specs.Inside.{WellFormedWorld}
 use Rattle.machine.proofs.Sound.Keeps.{keeps-good}
 use Rattle.runner.specs.Kept.{held, overlaid, BlankOrSound}
