@@ -43,7 +43,7 @@ try() {
   (cd "$3/crates/$2" && rt check --jobs 1) >"$3/log" 2>&1
   status=$?
   if [ "$status" -eq 0 ]; then echo "it is still proved"; return; fi
-  if [ "$status" -ne 1 ] || ! grep -q '^logic=not-proved' "$3/log"; then echo "it did not reach the prover: $(grep -m 1 -iE 'error|rt: ' "$3/log")"; return; fi
+  if [ "$status" -ne 1 ] || ! grep -q '^logic=not-proved' "$3/log"; then echo "it did not reach the prover: $(grep -m 1 -E 'error' "$3/log")"; return; fi
   # a statement or the code that cannot be read, or that rests on what cannot be, shows nothing of a contract
   if grep -qE "^(\./)?(src|specs)/[^ ]*: error: .*($form)" "$3/log"; then
     echo "the prover cannot read it: $(grep -m 1 -E "^(\./)?(src|specs)/[^ ]*: error: .*($form)" "$3/log")"
