@@ -1,12 +1,13 @@
 -- What a request of a script leaves, by the promise of the function that carries it out.
-use Rattle.std.proofs.Common.{◌≡◌, ℕ, ◌*◌, List, ◌++◌, length, take, drop}
+use Rattle.std.proofs.Common.{◌≡◌, ℕ, ◌*◌, List, ◌++◌, length, take, drop, refl, ap, subst, take-append-drop}
 use Rattle.machine.specs.Rule as Rule
-use Rattle.machine.specs.Rule.{lent}
+use Rattle.machine.specs.Rule.{Result, World, lent, rule}
+use Rattle.one_core.specs.declared.Answer.{Answer}
 use Rattle.machine.specs.Follows.{Follows}
 use Rattle.machine.specs.declared.Machine.{Machine}
 use Rattle.machine.specs.declared.Outcome.{Outcome}
 use Rattle.machine.specs.Inside.{WellFormedWorld}
-use Rattle.runner.specs.Kept.{held}
+use Rattle.runner.specs.Kept.{held, BlankOrSound}
 use Rattle.runner.specs.Listing.{Request, Anew, Asks, met}
 use Rattle.runner.proofs.Setups as Setups
 use Rattle.runner.proofs.Acts.{Done, acted}
@@ -20,7 +21,7 @@ module _ (m : Machine) (cs ps : List ℕ) (r : Outcome) (cs' ps' : List ℕ) whe
   unfolding met
   setup-done cores cards d = d
 
-module _ (m : Machine) (cs ps : List ℕ) (g : WellFormedWorld (held m cs ps)) (cl : length cs ≡ 64) (pl : length ps ≡ 1024) (r : Outcome) where
+module _ (m : Machine) (cs ps : List ℕ) (g : WellFormedWorld (held m cs ps)) (fit : BlankOrSound m cs ps) (asked : Rule.Call) (m' : Machine) (a : Answer) where
   abbrev dl : ℕ
   dl = m.objects
 
@@ -28,8 +29,18 @@ module _ (m : Machine) (cs ps : List ℕ) (g : WellFormedWorld (held m cs ps)) (
   nl = m.cores * m.objects
 
   -- the call is lent the first words, and leaves them as cs' and ps'
-  pub lent-done : (asked : Rule.Call) (cs' ps' : List ℕ) → length cs' ≡ length (take dl cs) → length ps' ≡ length (take nl ps)
-      → Follows (held m cs ps) asked r.answer (lent r.machine cs' ps')
-      → ByRequest m cs ps (Asks asked) r (cs' ++ drop dl cs) (ps' ++ drop nl ps)
+  pub call-done : (cs' ps' : List ℕ) → length cs' ≡ length (take dl cs) → length ps' ≡ length (take nl ps)
+      → record { answer = a; world = lent m' cs' ps' } ≡ rule (held m cs ps) asked
+      → ByRequest m cs ps (Asks asked) (record { machine = m'; answer = a }) (cs' ++ drop dl cs) (ps' ++ drop nl ps)
   unfolding met
-  lent-done asked cs' ps' k l f = acted m cs ps g cl pl asked r cs' ps' k l f
+  call-done cs' ps' k l same =
+      acted m cs ps g fit.committed_long fit.pending_long asked (record { machine = m'; answer = a }) cs' ps' k l
+      (record { answer_is = ap (λ (x : Result). x.answer) same; world_is = ap (λ (x : Result). x.world) same })
+
+  -- the same, where the committed words stay
+  pub access-done : (ps' : List ℕ) → length ps' ≡ length (take nl ps)
+      → record { answer = a; world = lent m' (take dl cs) ps' } ≡ rule (held m cs ps) asked
+      → ByRequest m cs ps (Asks asked) (record { machine = m'; answer = a }) cs (ps' ++ drop nl ps)
+  access-done ps' l same =
+      subst (λ (x : List ℕ). ByRequest m cs ps (Asks asked) (record { machine = m'; answer = a }) x (ps' ++ drop nl ps)) (take-append-drop dl cs)
+      (call-done (take dl cs) ps' refl l same)

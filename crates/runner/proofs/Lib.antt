@@ -4,12 +4,13 @@ mod Setups
 mod Acts
 mod Sizes
 mod ByCall
-mod InPlace
 mod Asking
 mod LineLaws
 mod Stepping
 mod Written
 mod Finishing
+mod ByteLaws
+mod Endings
 mod Feeding
 mod Typed
 pub mod Doors

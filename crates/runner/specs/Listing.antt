@@ -1,5 +1,5 @@
 -- The listing of any list of bytes (document 01, 'Script and listing').
-use Rattle.std.specs.Prelude.{ℕ, ◌+◌, ◌*◌, cond, List, [], ◌∷◌, ◌++◌, replicate, nat_lt}
+use Rattle.std.specs.Prelude.{ℕ, ◌+◌, ◌*◌, cond, List, [], ◌∷◌, ◌++◌, Option, None, Some, replicate, nat_lt}
 use Rattle.machine.specs.Record.{blank, sizes_in_range}
 use Rattle.machine.specs.Rule as Rule
 use Rattle.machine.specs.Rule.{World, Result, lent, rule}
@@ -93,6 +93,11 @@ rows script = rows_of (lines script)
 unfoldable pub listed : List Row → List ℕ
 listed [] = []
 listed (r ∷ rs) = line r.number r.answer ++ listed rs
+
+-- what is listed of line n: the line of its answer; nothing of the line of names, which has none
+abbrev pub answer_line : ℕ → Option Answer → List ℕ
+answer_line n None = []
+answer_line n (Some a) = line n a
 
 -- the heading, and below it the rows of the script
 unfoldable pub listing : List ℕ → List ℕ

@@ -7,6 +7,7 @@ ghost use Rattle.machine.specs.Rule.{lent, left, rule};
 ghost use Rattle.machine.specs.OneCore.{found, call_of, zeroed, handed};
 
 use crate::{Machine, Outcome};
+use one_core::Answer;
 use one_core::calls::{Act, Seen, object_of};
 use one_core::inside::calls::act_on;
 
@@ -101,4 +102,13 @@ pub fn access(mut m: Machine, core: u32, a: Act, committed: &[u32], pending: &mu
     pending[at] = done.pending;
     let answer = done.answer;
     Outcome { answer, machine: m }
+}
+
+pub fn access_in(m: &mut Machine, core: u32, a: Act, committed: &[u32], pending: &mut [u32]) -> Answer
+    requires { SoundWorld (lent m.old committed.now pending.old) }
+    ensures { record { answer = result; world = lent m.new committed.now pending.new } ≡ rule (lent m.old committed.now pending.old) (call_of a core) }
+{
+    let o = access(*m, core, a, committed, pending);
+    *m = o.machine;
+    o.answer
 }

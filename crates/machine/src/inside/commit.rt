@@ -14,7 +14,7 @@ use objset::OBJECTS;
 use one_core::calls::NOBODY;
 use one_core::inside::calls::settle;
 use one_core::inside::transaction::{abort, holds_back, is_struck, read_only};
-use one_core::{CORES, Core};
+use one_core::{Answer, CORES, Core};
 
 // The core that core k's transaction waits for at its commit: of those that hold it back the one of smallest ticket; NOBODY where none does,
 // or where it is read-only. `below` is the ticket to beat. The loop goes over all cores: with a constant bound the compiler makes no copy of the record here.
@@ -113,4 +113,13 @@ pub fn commit(mut m: Machine, core: u32, committed: &mut [u32], pending: &mut [u
     m.core = strike(cores, done.writes);
     let answer = done.answer;
     Outcome { answer, machine: m }
+}
+
+pub fn commit_in(m: &mut Machine, core: u32, committed: &mut [u32], pending: &mut [u32]) -> Answer
+    requires { SoundWorld (lent m.old committed.old pending.old) }
+    ensures { record { answer = result; world = lent m.new committed.new pending.new } ≡ commit_rule (lent m.old committed.old pending.old) core }
+{
+    let o = commit(*m, core, committed, pending);
+    *m = o.machine;
+    o.answer
 }

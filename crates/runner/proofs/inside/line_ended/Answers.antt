@@ -1,0 +1,59 @@
+-- `runner::inside::line_ended` meets its contract: each thing that a line may ask for is carried out by the rule.
+use Rattle.std.proofs.Common.{◌≡◌, ℕ, true, refl}
+use Rattle.machine.specs.Inside.{WellFormedWorld}
+use Rattle.machine.specs.Rule.{World, Result, rule, commit, Commit}
+use Rattle.request.specs.declared.Asked.{Asked}
+use Rattle.runner.specs.Kept.{held}
+use Rattle.runner.proofs.Asking.{calls, founded}
+use Rattle.runner.proofs.Acts.{none_done}
+use Rattle.runner.proofs.Sizes.{good-if-some}
+use Rattle.runner.proofs.ByCall.{setup-done, call-done, access-done}
+use Rattle.runner.proofs.Endings.{order-ended, line-ended}
+use Rattle.runner.proofs.inside.line_ended.Goals as goal
+use Rattle.runner.proofs.inside.line_ended.Goals.{After-end_line-asked}
+
+-- a commit is one of the calls
+by-rule : {x : Result} (w : World) (core : ℕ) → x ≡ commit w core → x ≡ rule w (Commit core)
+unfolding rule
+by-rule w core e = e
+
+-- a call that needs a machine finds one
+good : (c : After-end_line-asked) (b : Asked) → c.end_line-asked.result ≡ b → calls b ≡ true → WellFormedWorld (held c.args.r.now.machine c.args.committed.now c.args.pending.now)
+good c b same needs = good-if-some _ _ _ c.requires.0.holds (founded _ _ _ _ _ c.end_line-asked.ensures b same needs)
+
+pub commit_in-requires : goal.commit_in-requires
+commit_in-requires c = (good (goal.at.commit_in-requires c).After-end_line-asked _ c.in-Commit.is refl).world_sound
+
+pub access_in-requires : goal.access_in-requires
+access_in-requires c = (good (goal.at.access_in-requires c).After-end_line-asked _ c.in-One.is refl).world_sound
+
+pub returns-in-Order : goal.returns-in-Order
+returns-in-Order c =
+    let e = order-ended _ _ _ c.requires.0 c.requires.1 _ c.end_line-asked.ensures _ c.in-Order.is in
+    record { fit = e.fit; listed = e.listed; kept = e.kept }
+
+pub returns-in-Refused : goal.returns-in-Refused
+returns-in-Refused c =
+    let e = line-ended _ _ _ c.requires.0 c.requires.1 _ c.end_line-asked.ensures _ c.in-Refused.is refl _ refl _ _ _ _ (none_done _ _ _ c.requires.0.holds _) in
+    record { fit = e.fit; listed = e.listed; kept = e.kept }
+
+pub returns-in-Setup : goal.returns-in-Setup
+returns-in-Setup c =
+    let made = c.set_up-made.ensures in
+    let e = line-ended _ _ _ c.requires.0 c.requires.1 _ c.end_line-asked.ensures _ c.in-Setup.is refl _ c.requires.1 _ _ _ _
+        (setup-done _ _ _ _ _ _ _ _ (made.answer, (made.world, (made.kept, made.tables)))) in
+    record { fit = e.fit; listed = e.listed; kept = e.kept }
+
+pub returns-in-Commit : goal.returns-in-Commit
+returns-in-Commit c =
+    let g = good (goal.at.returns-in-Commit c).After-end_line-asked _ c.in-Commit.is refl in
+    let e = line-ended _ _ _ c.requires.0 c.requires.1 _ c.end_line-asked.ensures _ c.in-Commit.is refl _ c.requires.1 _ _ _ _
+        (call-done _ _ _ g c.requires.0.holds _ _ _ _ _ c.commit_in.auto.committed c.commit_in.auto.pending (by-rule _ _ c.commit_in.ensures)) in
+    record { fit = e.fit; listed = e.listed; kept = e.kept }
+
+pub returns-in-One : goal.returns-in-One
+returns-in-One c =
+    let g = good (goal.at.returns-in-One c).After-end_line-asked _ c.in-One.is refl in
+    let e = line-ended _ _ _ c.requires.0 c.requires.1 _ c.end_line-asked.ensures _ c.in-One.is refl _ c.requires.1 _ _ _ _
+        (access-done _ _ _ g c.requires.0.holds _ _ _ _ c.access_in.auto.pending c.access_in.ensures) in
+    record { fit = e.fit; listed = e.listed; kept = e.kept }
