@@ -3,7 +3,6 @@ use Rattle.std.proofs.Common.{◌≡◌, ℕ, ◌*◌, List, ◌++◌, length, t
 use Rattle.machine.specs.Rule as Rule
 use Rattle.machine.specs.Rule.{Result, World, lent, rule}
 use Rattle.one_core.specs.declared.Answer.{Answer}
-use Rattle.machine.specs.Follows.{Follows}
 use Rattle.machine.specs.declared.Machine.{Machine}
 use Rattle.machine.specs.declared.Outcome.{Outcome}
 use Rattle.machine.specs.Inside.{WellFormedWorld}

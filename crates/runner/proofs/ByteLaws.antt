@@ -1,6 +1,5 @@
 -- What a byte leaves that ends no line, or one that ends a line while lines are read no more.
 use Rattle.std.proofs.Common.{◌≡◌, ℕ, suc, ◌+◌, ◌<◌, ◌≤◌, Bool, true, false, not, ◌&&◌, eqb, List, [], ◌∷◌, ◌++◌, take, set, sym, refl, ap, ◌∙◌, subst, true≢false, append_assoc, arith, length-set, length-take-le, take-suc-set, ne_eqb}
-use Rattle.machine.specs.declared.Machine.{Machine}
 use Rattle.table.specs.Pieces.{lines, free}
 use Rattle.runner.specs.declared.Reading.{Reading}
 use Rattle.runner.specs.Kept.{held, listed_from, unfinished, rest, ReadingFits}

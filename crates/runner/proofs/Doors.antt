@@ -1,6 +1,8 @@
 -- What the doors do not refuse is fit, and what is fit they do not refuse. For readers: `not-refused`, that what `start` gives and `feed`
 -- leaves is taken again.
-use Rattle.std.proofs.Common.{◌≡◌, ℕ, suc, ◌+◌, ◌*◌, ◌/◌, ◌<◌, ◌≤◌, Bool, true, false, cond, not, ◌&&◌, ◌||◌, eqb, ltb, leb, ◌⊎◌, List, length, get_or, drop, sym, refl, ap, ◌∙◌, subst, inl, inr, ⊎_elim, true≢false, arith, drop_of_length-le, length-take-le, drop-cons, ltb-false, ltb-true, le-ltb, lt-ltb, eq-eqb, ne_eqb, eqb-true, le-leb, leb-true}
+use Rattle.std.specs.List.{list_any}
+use Rattle.std.specs.Prelude.{◌==◌}
+use Rattle.std.proofs.Common.{◌≡◌, ℕ, ◌+◌, ◌*◌, ◌/◌, ◌<◌, ◌≤◌, Bool, true, false, cond, not, ◌&&◌, ◌||◌, eqb, ltb, leb, ◌⊎◌, List, None, Some, is_some, [], ◌∷◌, length, sym, refl, ap, ◌∙◌, subst, inl, inr, ⊎_elim, true≢false, arith, length-take-le, ltb-false, ltb-true, le-ltb, lt-ltb, eq-eqb, eqb-true, le-leb, leb-true}
 use mathlib.Core.Bool.{or-true}
 use Rattle.machine.specs.Record.{blank}
 use Rattle.one_core.specs.Tidy.{◌⇒◌}
@@ -12,32 +14,28 @@ use Rattle.machine.proofs.Sound.Standing.{Standing, standing}
 use Rattle.machine.proofs.BlankLaws.{blank-only, blank-passes}
 use Rattle.table.specs.Pieces.{free}
 use Rattle.runner.specs.declared.Reading.{Reading}
+use Rattle.runner.specs.declared.Misfit.{Misfit}
+use Rattle.runner.specs.declared.Misfit.TheVariants.{Unsound, WrongTable, NoRoom}
 use Rattle.request.specs.Asks.{most_lines}
 use Rattle.runner.specs.Kept.{held, unfinished, ReadingFits}
 use Rattle.runner.specs.Doors.{readable, refusal}
 use Rattle.runner.proofs.Setups.{few_words}
 
--- ---- a newline among bytes, looked for one by one
+-- ---- a newline among bytes
 
-pub newline-here : (bs : List ℕ) (i : ℕ) → i < length bs → get_or bs i 0 ≡ 10 → free 10 (drop i bs) ≡ false
+pub no_newline : (bs : List ℕ) → not (list_any (λ y. y == 10) bs) ≡ free 10 bs
 unfolding free
-newline-here bs i l e = ap (free 10) (drop-cons bs i 0 l) ∙ rw (eq-eqb (get_or bs i 0) 10 e) refl
-
-pub newline-later : (bs : List ℕ) (i : ℕ) → i < length bs → (get_or bs i 0 ≡ 10 → ⊥) → free 10 (drop i bs) ≡ free 10 (drop (i + 1) bs)
-unfolding free
-newline-later bs i l ne =
-    ap (free 10) (drop-cons bs i 0 l) ∙ rw (ne_eqb (get_or bs i 0) 10 ne) (ap (λ (n : ℕ). free 10 (drop n bs)) one_more)
+no_newline [] = refl
+no_newline (b ∷ bs) = go (b == 10) (no_newline bs)
   where
-    one_more : suc i ≡ i + 1
-    one_more = omega arith
-
-pub newline-none : (bs : List ℕ) (i : ℕ) → length bs ≤ i → free 10 (drop i bs) ≡ true
-newline-none bs i l = ap (free 10) (drop_of_length-le bs l) ∙ unfold free in refl
+    go : (x : Bool) → not (list_any (λ y. y == 10) bs) ≡ free 10 bs → not (x || list_any (λ y. y == 10) bs) ≡ not x && free 10 bs
+    go true e = refl
+    go false e = e
 
 -- ---- room for 32 bytes each
 
-pub room-test : (bytes room : ℕ) → ltb (room / 32) bytes ≡ ltb room (32 * bytes)
-room-test bytes room = go (ltb (room / 32) bytes) refl
+pub room_test : (bytes room : ℕ) → ltb (room / 32) bytes ≡ ltb room (32 * bytes)
+room_test bytes room = go (ltb (room / 32) bytes) refl
   where
     go : (b : Bool) → ltb (room / 32) bytes ≡ b → b ≡ ltb room (32 * bytes)
     go true e = sym (lt-ltb room (32 * bytes) (omega (arith, ltb-true (room / 32) bytes e)))
@@ -49,19 +47,23 @@ either : (a b : Bool) → a ≡ false → (a || b) ≡ true → b ≡ true
 either true b i e = absurd (true≢false i)
 either false b i e = e
 
+some-none : {x : Misfit} → Some x ≡ None → ⊥
+some-none e = true≢false (ap is_some e)
+
 record Taking (r : Reading) (committed pending bytes room : ℕ) : Type 0 where
   sound-reading : readable r ≡ true
   committed_long : committed ≡ 64
   pending_long : pending ≡ 1024
   enough : 32 * bytes ≤ room
 
-taking : (r : Reading) (committed pending bytes room : ℕ) → refusal r committed pending bytes room ≡ 0 → Taking r committed pending bytes room
+taking : (r : Reading) (committed pending bytes room : ℕ) → refusal r committed pending bytes room ≡ None → Taking r committed pending bytes room
 unfolding refusal
 taking r committed pending bytes room e =
     go (readable r) refl (eqb committed 64) refl (eqb pending 1024) refl (ltb room (32 * bytes)) refl e
   where
     go : (a : Bool) → readable r ≡ a → (b : Bool) → eqb committed 64 ≡ b → (c : Bool) → eqb pending 1024 ≡ c
-        → (d : Bool) → ltb room (32 * bytes) ≡ d → ◌≡◌ {A = ℕ} (cond (not a) 2 (cond (not (b && c)) 3 (cond d 100 0))) 0
+        → (d : Bool) → ltb room (32 * bytes) ≡ d
+        → cond (not a) (Some Unsound) (cond (not (b && c)) (Some WrongTable) (cond d (Some NoRoom) None)) ≡ None
         → Taking r committed pending bytes room
     go true i true j true k false l e =
         record {
@@ -70,10 +72,10 @@ taking r committed pending bytes room e =
           pending_long = eqb-true pending 1024 k;
           enough = ltb-false room (32 * bytes) l;
         }
-    go true i true j true k true l e = absurd (omega (arith, e))
-    go true i true j false k d l e = absurd (omega (arith, e))
-    go true i false j c k d l e = absurd (omega (arith, e))
-    go false i b j c k d l e = absurd (omega (arith, e))
+    go true i true j true k true l e = absurd (some-none e)
+    go true i true j false k d l e = absurd (some-none e)
+    go true i false j c k d l e = absurd (some-none e)
+    go false i b j c k d l e = absurd (some-none e)
 
 module _ (r : Reading) where
   abbrev few_lines : Bool
@@ -146,7 +148,7 @@ module _ (r : Reading) where
 
 -- what is not refused is fit
 pub taken-fit : (r : Reading) (cs ps : List ℕ) (bytes room : ℕ) → Formed r.machine × (length r.line ≡ 65)
-    → refusal r (length cs) (length ps) bytes room ≡ 0 → ReadingFits r cs ps × (32 * bytes ≤ room)
+    → refusal r (length cs) (length ps) bytes room ≡ None → ReadingFits r cs ps × (32 * bytes ≤ room)
 taken-fit r cs ps bytes room formed e =
     let t = taking r (length cs) (length ps) bytes room e in
     (passed-fit r cs ps formed.0 formed.1 (passed r t.sound-reading) t.committed_long t.pending_long, t.enough)
@@ -183,7 +185,7 @@ module _ (r : Reading) (cs ps : List ℕ) (f : ReadingFits r cs ps) where
         machine-fits,
       ) refl
 
-  pub not-refused : (bytes room : ℕ) → 32 * bytes ≤ room → refusal r (length cs) (length ps) bytes room ≡ 0
+  pub not-refused : (bytes room : ℕ) → 32 * bytes ≤ room → refusal r (length cs) (length ps) bytes room ≡ None
   unfolding refusal
   not-refused bytes room enough =
       rw (

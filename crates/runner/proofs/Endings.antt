@@ -1,5 +1,5 @@
 -- What the end of a line leaves, where what it asks for has been carried out.
-use Rattle.std.proofs.Common.{◌≡◌, ℕ, ◌+◌, ◌≤◌, Bool, true, false, cond, List, [], ◌∷◌, ◌++◌, Option, None, Some, sym, refl, ap, ◌∙◌, subst, ap₂, arith}
+use Rattle.std.proofs.Common.{◌≡◌, ℕ, ◌+◌, Bool, true, cond, List, [], ◌∷◌, ◌++◌, Option, None, Some, sym, refl, ap, ◌∙◌, subst, ap₂, arith}
 use Rattle.machine.specs.declared.Machine.{Machine}
 use Rattle.machine.specs.Rule.{World}
 use Rattle.machine.specs.declared.Outcome.{Outcome}
@@ -10,7 +10,7 @@ use Rattle.table.specs.Pieces.{lines, free}
 use Rattle.table.proofs.Laws.{lines-newline}
 use Rattle.listing.specs.Text.{line}
 use Rattle.request.specs.declared.Asked.{Asked}
-use Rattle.request.specs.Asks.{most_lines, asks}
+use Rattle.request.specs.Asks.{asks}
 use Rattle.runner.specs.declared.Reading.{Reading}
 use Rattle.runner.specs.Listing.{answer_line}
 use Rattle.runner.specs.Kept.{held, listed_from, unfinished, rest, ReadingFits, state, past_line, after_byte}

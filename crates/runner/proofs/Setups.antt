@@ -124,3 +124,16 @@ module _ (cores cards : ℕ) (cs ps : List ℕ) (cl : length cs ≡ 64) (pl : le
           ),
         ),
       )
+
+  -- the words that are lent: as many as it asks for, or none
+  abbrev Leaves : ℕ × ℕ → Type 0
+  Leaves x =
+      length cs' ≡ length (take x.1 cs) → length ps' ≡ length (take (x.0 * x.1) ps)
+      → left r cs' ps' ≡ setup cores cards (take x.1 cs) (take (x.0 * x.1) ps)
+      → Done cs ps cores cards r (cs' ++ drop x.1 cs) (ps' ++ drop (x.0 * x.1) ps)
+
+  pub lent-accepts : (x : ℕ × ℕ) → x ≡ (cores, cards) → sizes_in_range cores cards ≡ true → Leaves x
+  lent-accepts x same e = subst Leaves (sym same) (set-up-accepts e)
+
+  pub lent-refuses : (x : ℕ × ℕ) → x ≡ (0, 0) → sizes_in_range cores cards ≡ false → Leaves x
+  lent-refuses x same e = subst Leaves (sym same) (set-up-refuses e)

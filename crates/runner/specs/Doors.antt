@@ -1,10 +1,12 @@
 -- What the runner's doors take: any reading, tables and output may be handed in.
-use Rattle.std.specs.Prelude.{ℕ, ◌+◌, ◌*◌, Bool, cond, not, ◌&&◌, ◌||◌, leb, ◌==◌, nat_le, nat_lt}
+use Rattle.std.specs.Prelude.{ℕ, ◌+◌, ◌*◌, Bool, Option, None, Some, cond, not, ◌&&◌, ◌||◌, leb, ◌==◌, nat_le, nat_lt}
 use Rattle.one_core.specs.Tidy.{◌⇒◌}
 use Rattle.machine.specs.Sound.{sound, is_blank}
 use Rattle.decimal.specs.Bytes.{byte}
 use Rattle.table.specs.Pieces.{free}
 use Rattle.runner.specs.declared.Reading.{Reading}
+use Rattle.runner.specs.declared.Misfit.{Misfit}
+use Rattle.runner.specs.declared.Misfit.TheVariants.{Unsound, WrongTable, NoRoom}
 use Rattle.runner.specs.Kept.{kept_bytes, line_room, unfinished, committed_words, pending_words}
 use Rattle.request.specs.Asks.{most_lines}
 
@@ -18,11 +20,16 @@ readable r =
     && free (byte "\n") (unfinished r)
     && (is_blank r.machine || (nat_lt 1 r.number && sound r.machine))
 
--- the output has not 32 bytes for each byte that is read: a condition of these doors, with a number that no document gives
-abbrev pub no_room : ℕ
-no_room = 100
+-- the number of what the doors refuse: 2 and 3 are document 01's, and no document gives 100
+abbrev pub number : Misfit → ℕ
+number Unsound = 2
+number WrongTable = 3
+number NoRoom = 100
 
--- the first that applies, or 0: 2 the reading is unsound, 3 either table has not the length of the largest machine's, 100 no room
-unfoldable pub refusal : Reading → ℕ → ℕ → ℕ → ℕ → ℕ
+-- the first that applies: the reading is unsound, either table has not the length of the largest machine's, the output has not 32 bytes for
+-- each byte that is read
+unfoldable pub refusal : Reading → ℕ → ℕ → ℕ → ℕ → Option Misfit
 refusal r committed pending bytes room =
-    cond (not (readable r)) 2 (cond (not (committed == committed_words && pending == pending_words)) 3 (cond (nat_lt room (line_room * bytes)) no_room 0))
+    cond (not (readable r)) (Some Unsound)
+    (cond (not (committed == committed_words && pending == pending_words)) (Some WrongTable)
+    (cond (nat_lt room (line_room * bytes)) (Some NoRoom) None))

@@ -32,7 +32,10 @@ pub fn feed(
     for b in chunk {
         written += byte_read(&mut r, *b, committed, pending, &mut output[written..]);
     }
-    Fed { reading: r, written }
+    Fed {
+        reading: r,
+        written,
+    }
 }
 
 // The next byte, and how many bytes of the output it writes: a newline ends the line, and any other byte joins it while bytes of it are kept.
@@ -112,10 +115,7 @@ fn line_ended(r: &mut Reading, committed: &mut [u32], pending: &mut [u32]) -> Op
 fn line_left(number: u32, length: usize) -> bool
     ensures { result ≡ (number == 1 || nat_lt 0 length) }
 {
-    if number == 1 {
-        return true;
-    }
-    0 < length
+    number == 1 || length > 0
 }
 
 // The script's end: a line without its newline is a line. What is written is the rest of the listing, and the bytes after it keep what
@@ -126,14 +126,12 @@ pub fn finish(r: Reading, committed: &mut [u32], pending: &mut [u32], output: &m
     ensures after { (result.written ≤ line_room) × (drop result.written output.new ≡ drop result.written output.old) }
     ensures kept { state result.reading committed.new pending.new ≡ at_end (state r committed.old pending.old) }
 {
-    let length = r.length;
-    if r.going {
-        if line_left(r.number, length) {
-            return feed(r, b"\n", committed, pending, output);
+    if r.going && line_left(r.number, r.length) {
+        feed(r, b"\n", committed, pending, output)
+    } else {
+        Fed {
+            reading: r,
+            written: 0,
         }
-    }
-    Fed {
-        reading: r,
-        written: 0,
     }
 }

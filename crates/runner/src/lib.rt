@@ -5,9 +5,10 @@
 // refused, and the reading comes back as given.
 #![tactic(auto)]
 
-ghost use Rattle.std.specs.Prelude.{◌≡◌, ℕ, ◌≤◌, false, List, [], ◌++◌, length, take, drop, if◌then◌else◌, ◌==◌, nat_eq};
+ghost use Rattle.std.specs.Prelude.{◌≡◌, ℕ, ◌≤◌, List, [], ◌++◌, length, take, drop, if◌then◌else◌, is_ok, OnOk, OnErr, IfOk};
 ghost use Rattle.runner.specs.Kept.{ReadingFits, rest, state, started, fed, at_end};
-ghost use Rattle.runner.specs.Doors.{refusal};
+ghost use Rattle.std.specs.Result.{result_err};
+ghost use Rattle.runner.specs.Doors.{number, refusal};
 
 use crate::soundness::refusal_of;
 use machine::Machine;
@@ -29,9 +30,29 @@ pub const PENDING_WORDS: usize = one_core::CORES * objset::OBJECTS;
 // How many bytes of output each byte of a chunk may need: it may end a line.
 pub const LINE_ROOM: usize = 32;
 
-// The number of what these doors alone refuse: the output has not LINE_ROOM bytes for each byte of the chunk, whether or not its listing
-// would fit. No document has this number; 12, a listing longer than the output, is the C entry's.
-pub const NO_ROOM: u8 = 100;
+// Why these doors do not take what they are handed.
+#[derive(Clone, Copy, PartialEq, Eq)]
+pub enum Misfit {
+    // the reading is unsound
+    Unsound,
+    // either table has not the length of the largest machine's
+    WrongTable,
+    // the output has not LINE_ROOM bytes for each byte of the chunk, whether or not its listing would fit
+    NoRoom,
+}
+
+impl Misfit {
+    // Its number: 2 and 3 are document 01's; no document has 100. (12, a listing longer than the output, is the C entry's.)
+    pub fn number(self) -> u8
+        ensures { result ≡ number self }
+    {
+        match self {
+            Misfit::Unsound => 2,
+            Misfit::WrongTable => 3,
+            Misfit::NoRoom => 100,
+        }
+    }
+}
 
 // What is kept of a script between two chunks.
 #[derive(Clone, Copy)]
@@ -55,12 +76,11 @@ pub struct Fed {
     pub written: usize,
 }
 
-// The same, with the number of a refusal, or 0. Refused, nothing is written and the reading is as given.
+// The same of the doors, or why they refused. Refused, nothing is written and the reading is as given.
 #[derive(Clone, Copy)]
 pub struct Taken {
     pub reading: Reading,
-    pub written: usize,
-    pub refusal: u8,
+    pub written: Result<usize, Misfit>,
 }
 
 impl Reading {
@@ -85,7 +105,7 @@ impl Reading {
 
     // The next bytes of the script, with the tables of the largest machine, 64 and 1,024 words. What is written is what the chunk adds
     // to the listing, and the bytes after it keep what they held. What is kept, with every word of both tables, is what `fed` says, and
-    // the doors take it again with these tables (proofs/Doors.antt: `not-refused`). 2 unsound reading, 3 wrong table, NO_ROOM the output
+    // the doors take it again with these tables (proofs/Doors.antt: `not-refused`). 2 unsound reading, 3 wrong table, 100 the output
     // has not 32 bytes for each byte of the chunk.
     pub fn feed(
         self,
@@ -94,57 +114,53 @@ impl Reading {
         pending: &mut [u32],
         output: &mut [u8],
     ) -> Taken
-        ensures refusal { result.refusal ≡ refusal self (length committed.old) (length pending.old) (length chunk.now) (length output.old) }
-        ensures kept { state result.reading committed.new pending.new ≡ (if nat_eq result.refusal 0 then fed (state self committed.old pending.old) chunk.now else state self committed.old pending.old) }
-        ensures fit { result.refusal ≡ 0 → ReadingFits result.reading committed.new pending.new }
-        ensures listed { result.refusal ≡ 0 → (bytes : List ℕ) → rest self committed.old pending.old (chunk.now ++ bytes) ≡ take result.written output.new ++ rest result.reading committed.new pending.new bytes }
-        ensures after { (result.written ≤ length output.old) × ((result.refusal == 0) ≡ false → result.written ≡ 0) × (drop result.written output.new ≡ drop result.written output.old) }
+        ensures refusal { result_err result.written ≡ refusal self (length committed.old) (length pending.old) (length chunk.now) (length output.old) }
+        ensures kept { state result.reading committed.new pending.new ≡ (if is_ok result.written then fed (state self committed.old pending.old) chunk.now else state self committed.old pending.old) }
+        ensures fit { OnOk result.written (ReadingFits result.reading committed.new pending.new) }
+        ensures listed { IfOk result.written (λ n. (bytes : List ℕ) → rest self committed.old pending.old (chunk.now ++ bytes) ≡ take n output.new ++ rest result.reading committed.new pending.new bytes) }
+        ensures after { IfOk result.written (λ n. (n ≤ length output.old) × (drop n output.new ≡ drop n output.old)) }
+        ensures untouched { OnErr result.written (output.new ≡ output.old) }
     {
-        let refusal = refusal_of(
-            self,
+        let misfit = refusal_of(
+            &self,
             committed.len(),
             pending.len(),
             chunk.len(),
             output.len(),
         );
-        if refusal != 0 {
+        if let Some(misfit) = misfit {
             return Taken {
                 reading: self,
-                written: 0,
-                refusal,
+                written: Err(misfit),
             };
         }
         let fed = inside::feed(self, chunk, committed, pending, output);
-        let reading = fed.reading;
         Taken {
-            reading,
-            written: fed.written,
-            refusal: 0,
+            reading: fed.reading,
+            written: Ok(fed.written),
         }
     }
 
     // The script's end: a line without its newline is a line. What is written is the rest of the listing, and the bytes after it keep
-    // what they held. 2 unsound reading, 3 wrong table, NO_ROOM the output has not 32 bytes.
+    // what they held. 2 unsound reading, 3 wrong table, 100 the output has not 32 bytes.
     pub fn finish(self, committed: &mut [u32], pending: &mut [u32], output: &mut [u8]) -> Taken
-        ensures refusal { result.refusal ≡ refusal self (length committed.old) (length pending.old) 1 (length output.old) }
-        ensures kept { state result.reading committed.new pending.new ≡ (if nat_eq result.refusal 0 then at_end (state self committed.old pending.old) else state self committed.old pending.old) }
-        ensures listed { result.refusal ≡ 0 → take result.written output.new ≡ rest self committed.old pending.old [] }
-        ensures after { (result.written ≤ length output.old) × ((result.refusal == 0) ≡ false → result.written ≡ 0) × (drop result.written output.new ≡ drop result.written output.old) }
+        ensures refusal { result_err result.written ≡ refusal self (length committed.old) (length pending.old) 1 (length output.old) }
+        ensures kept { state result.reading committed.new pending.new ≡ (if is_ok result.written then at_end (state self committed.old pending.old) else state self committed.old pending.old) }
+        ensures listed { IfOk result.written (λ n. take n output.new ≡ rest self committed.old pending.old []) }
+        ensures after { IfOk result.written (λ n. (n ≤ length output.old) × (drop n output.new ≡ drop n output.old)) }
+        ensures untouched { OnErr result.written (output.new ≡ output.old) }
     {
-        let refusal = refusal_of(self, committed.len(), pending.len(), 1, output.len());
-        if refusal != 0 {
+        let misfit = refusal_of(&self, committed.len(), pending.len(), 1, output.len());
+        if let Some(misfit) = misfit {
             return Taken {
                 reading: self,
-                written: 0,
-                refusal,
+                written: Err(misfit),
             };
         }
         let fed = inside::finish(self, committed, pending, output);
-        let reading = fed.reading;
         Taken {
-            reading,
-            written: fed.written,
-            refusal: 0,
+            reading: fed.reading,
+            written: Ok(fed.written),
         }
     }
 }

@@ -13,11 +13,15 @@ pub(crate) fn set_up(cores: u32, cards: u32, committed: &mut [u32], pending: &mu
     ensures kept { BlankOrSound result.machine committed.new pending.new }
     ensures tables { (committed.new ≡ overlaid (set_up cores cards).world.committed committed.old) × (pending.new ≡ overlaid (set_up cores cards).world.pending pending.old) }
 {
-    if machine::in_range(cores, cards) {
-        let d = cards as usize;
-        let n = cores as usize * d;
-        Machine::setup(cores, cards, &mut committed[..d], &mut pending[..n])
+    let (cores_lent, cards_lent) = if machine::in_range(cores, cards) {
+        (cores as usize, cards as usize)
     } else {
-        Machine::setup(cores, cards, &mut committed[..0], &mut pending[..0])
-    }
+        (0, 0)
+    };
+    Machine::setup(
+        cores,
+        cards,
+        &mut committed[..cards_lent],
+        &mut pending[..cores_lent * cards_lent],
+    )
 }

@@ -7,7 +7,7 @@ ghost use Rattle.table.specs.Pieces.{free};
 ghost use Rattle.request.specs.Asks.{most_lines};
 ghost use Rattle.runner.specs.Doors.{readable, refusal};
 
-use crate::{COMMITTED_WORDS, KEPT_BYTES, LINE_ROOM, NO_ROOM, PENDING_WORDS, Reading};
+use crate::{COMMITTED_WORDS, KEPT_BYTES, LINE_ROOM, Misfit, PENDING_WORDS, Reading};
 use machine::Machine;
 
 // The greatest number that a line may have while lines are read.
@@ -17,76 +17,53 @@ const LAST_LINE: u32 = 1_000_001;
 fn no_newline(bytes: &[u8]) -> bool
     ensures { result ≡ free (byte "\n") bytes.now }
 {
-    let mut i = 0;
-    while i < bytes.len() {
-        if bytes[i] == b'\n' {
-            return false;
-        }
-        i += 1;
-    }
-    true
+    !bytes.contains(&b'\n')
 }
 
 // Whether a line may have this number.
 fn is_line(number: u32, going: bool) -> bool
     ensures { result ≡ (nat_lt 0 number && (going ⇒ nat_le number (most_lines + 1))) }
 {
-    if number == 0 {
-        return false;
-    }
-    if going {
-        return number <= LAST_LINE;
-    }
-    true
+    number > 0 && (!going || number <= LAST_LINE)
 }
 
 // Whether the record is blank, or after line 1 sound.
 fn machine_sound(number: u32, m: Machine) -> bool
     ensures { result ≡ (is_blank m || (nat_lt 1 number && sound m)) }
 {
-    if m.is_blank() {
-        return true;
-    }
-    if number <= 1 {
-        return false;
-    }
-    m.sound()
+    m.is_blank() || (number > 1 && m.sound())
 }
 
 // Whether the reading is sound.
-fn is_readable(r: Reading) -> bool
-    ensures { result ≡ readable r }
+#[tactic(auto, unfolding(crate::specs::Doors::readable))]
+fn is_readable(r: &Reading) -> bool
+    ensures { result ≡ readable r.now }
 {
-    if !is_line(r.number, r.going) {
-        return false;
-    }
-    let length = r.length;
-    if KEPT_BYTES < length {
-        return false;
-    }
-    let line = r.line;
-    if !no_newline(&line[..length]) {
-        return false;
-    }
-    let m = r.machine;
-    machine_sound(r.number, m)
+    is_line(r.number, r.going)
+        && r.length <= KEPT_BYTES
+        && no_newline(&r.line[..r.length])
+        && machine_sound(r.number, r.machine)
 }
 
-// The number of the refusal, or 0.
-pub fn refusal_of(r: Reading, committed: usize, pending: usize, bytes: usize, room: usize) -> u8
-    ensures { result ≡ refusal r committed pending bytes room }
+// Why the doors do not take a reading, tables of these lengths, and room for so many bytes.
+#[tactic(auto, unfolding(crate::specs::Doors::refusal), using(crate::proofs::Doors::room_test))]
+pub fn refusal_of(
+    r: &Reading,
+    committed: usize,
+    pending: usize,
+    bytes: usize,
+    room: usize,
+) -> Option<Misfit>
+    ensures { result ≡ refusal r.now committed pending bytes room }
 {
     if !is_readable(r) {
-        return 2;
+        return Some(Misfit::Unsound);
     }
-    if committed != COMMITTED_WORDS {
-        return 3;
-    }
-    if pending != PENDING_WORDS {
-        return 3;
+    if committed != COMMITTED_WORDS || pending != PENDING_WORDS {
+        return Some(Misfit::WrongTable);
     }
     if room / LINE_ROOM < bytes {
-        return NO_ROOM;
+        return Some(Misfit::NoRoom);
     }
-    0
+    None
 }

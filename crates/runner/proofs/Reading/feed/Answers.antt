@@ -1,22 +1,16 @@
--- `runner::Reading::feed` meets its contract: what does not fit is refused, any other goes to the inside function.
-use Rattle.std.proofs.Common.{length, sym, refl, ◌∙◌, true≢false, arith, ne_eqb}
+-- `runner::Reading::feed` meets its contract: what the doors do not refuse is fit.
+use Rattle.std.proofs.Common.{sym, ◌∙◌, arith, length}
 use Rattle.runner.proofs.Typed.{reading-formed}
 use Rattle.runner.proofs.Doors.{taken-fit}
 use Rattle.runner.proofs.Reading.feed.Goals as goal
 
-pub returns-then-refusal-ne0 : goal.returns-then-refusal-ne0
-returns-then-refusal-ne0 c = record { refusal = c.refusal_of-refusal.ensures; kept = rw (ne_eqb _ 0 c.if-refusal-ne0.true) refl; fit = (λ e. absurd (c.if-refusal-ne0.true e)); listed = (λ e. absurd (c.if-refusal-ne0.true e)); after = (omega arith, (λ e. refl), refl) }
-
 pub feed-fed-requires : goal.feed-fed-requires
 feed-fed-requires c =
-    let args = c.args in
-    taken-fit args.self args.committed.now args.pending.now (length args.chunk.now) (length args.output.now)
-    (reading-formed args.self _ c.well_formed.0) (sym c.refusal_of-refusal.ensures ∙ c.if-refusal-ne0.false)
+    taken-fit c.args.self c.args.committed.now c.args.pending.now (length c.args.chunk.now) (length c.args.output.now)
+    (reading-formed c.args.self _ c.well_formed.0) (sym c.refusal_of-misfit.ensures ∙ c.in_default.is)
 
-pub returns : goal.returns
-returns c =
-    let did = c.feed-fed.ensures in
-    let args = c.args in
-    let fits = taken-fit args.self args.committed.now args.pending.now (length args.chunk.now) (length args.output.now)
-    (reading-formed args.self _ c.well_formed.0) (sym c.refusal_of-refusal.ensures ∙ c.if-refusal-ne0.false) in
-    record { refusal = sym c.if-refusal-ne0.false ∙ c.refusal_of-refusal.ensures; kept = did.kept; fit = (λ e. did.fit); listed = (λ e. did.listed); after = (omega (arith, did.after.0, fits.1), (λ e. absurd (true≢false e)), did.after.1) }
+pub returns-clause-after : goal.returns-clause-after
+returns-clause-after c =
+    let fits = taken-fit c.args.self c.args.committed.now c.args.pending.now (length c.args.chunk.now) (length c.args.output.now)
+    (reading-formed c.args.self _ c.well_formed.0) (sym c.refusal_of-misfit.ensures ∙ c.in_default.is) in
+    (omega (arith, c.feed-fed.ensures.after.0, fits.1), c.feed-fed.ensures.after.1)

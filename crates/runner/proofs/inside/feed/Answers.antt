@@ -1,6 +1,6 @@
 -- `runner::inside::feed` meets its contract: each byte keeps the loop's invariant.
 use Rattle.std.proofs.Common.{arith}
-use Rattle.runner.proofs.Feeding.{feeding-starts, feeding-reads, feeding-kept, part_room, room-left}
+use Rattle.runner.proofs.Feeding.{feeding-reads, feeding-kept, room-left}
 use Rattle.runner.proofs.inside.feed.Goals as goal
 
 pub loop-b-preserved : goal.loop-b-preserved

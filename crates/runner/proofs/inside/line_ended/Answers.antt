@@ -41,19 +41,19 @@ pub returns-in-Setup : goal.returns-in-Setup
 returns-in-Setup c =
     let made = c.set_up-made.ensures in
     let e = line-ended _ _ _ c.requires.0 c.requires.1 _ c.end_line-asked.ensures _ c.in-Setup.is refl _ c.requires.1 _ _ _ _
-        (setup-done _ _ _ _ _ _ _ _ (made.answer, (made.world, (made.kept, made.tables)))) in
+    (setup-done _ _ _ _ _ _ _ _ (made.answer, (made.world, (made.kept, made.tables)))) in
     record { fit = e.fit; listed = e.listed; kept = e.kept }
 
 pub returns-in-Commit : goal.returns-in-Commit
 returns-in-Commit c =
     let g = good (goal.at.returns-in-Commit c).After-end_line-asked _ c.in-Commit.is refl in
     let e = line-ended _ _ _ c.requires.0 c.requires.1 _ c.end_line-asked.ensures _ c.in-Commit.is refl _ c.requires.1 _ _ _ _
-        (call-done _ _ _ g c.requires.0.holds _ _ _ _ _ c.commit_in.auto.committed c.commit_in.auto.pending (by-rule _ _ c.commit_in.ensures)) in
+    (call-done _ _ _ g c.requires.0.holds _ _ _ _ _ c.commit_in.auto.committed c.commit_in.auto.pending (by-rule _ _ c.commit_in.ensures)) in
     record { fit = e.fit; listed = e.listed; kept = e.kept }
 
 pub returns-in-One : goal.returns-in-One
 returns-in-One c =
     let g = good (goal.at.returns-in-One c).After-end_line-asked _ c.in-One.is refl in
     let e = line-ended _ _ _ c.requires.0 c.requires.1 _ c.end_line-asked.ensures _ c.in-One.is refl _ c.requires.1 _ _ _ _
-        (access-done _ _ _ g c.requires.0.holds _ _ _ _ c.access_in.auto.pending c.access_in.ensures) in
+    (access-done _ _ _ g c.requires.0.holds _ _ _ _ c.access_in.auto.pending c.access_in.ensures) in
     record { fit = e.fit; listed = e.listed; kept = e.kept }
