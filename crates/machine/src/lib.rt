@@ -14,7 +14,7 @@ ghost use Rattle.machine.specs.Refusals.{Numbered, NumberedSetup};
 
 use crate::inside::calls::{access, alone};
 use crate::inside::commit;
-use crate::setup::{clear, fresh};
+use crate::setup::fresh;
 use crate::soundness::{all_zero, is_sound};
 use objset::OBJECTS;
 use one_core::calls::Act;
@@ -54,27 +54,14 @@ const MOST_OBJECTS: u32 = OBJECTS as u32;
 pub fn in_range(cores: u32, objects: u32) -> bool
     ensures { result ≡ sizes_in_range cores objects }
 {
-    if cores < 1 {
-        return false;
-    }
-    if MOST_CORES < cores {
-        return false;
-    }
-    if objects < 1 {
-        return false;
-    }
-    objects <= MOST_OBJECTS
+    1 <= cores && cores <= MOST_CORES && 1 <= objects && objects <= MOST_OBJECTS
 }
 
 // Whether tables of these lengths fit a machine of that many cores and objects.
 fn tables_fit(cores: u8, objects: u8, committed: usize, pending: usize) -> bool
     ensures { result ≡ (committed == objects && pending == cores * objects) }
 {
-    if committed == objects as usize {
-        pending == cores as usize * objects as usize
-    } else {
-        false
-    }
+    committed == objects as usize && pending == cores as usize * objects as usize
 }
 
 // Setup that is refused hands back the blank record.
@@ -99,14 +86,14 @@ impl Machine {
     pub fn is_blank(self) -> bool
         ensures { result ≡ is_blank self }
     {
-        all_zero(self)
+        all_zero(&self)
     }
 
     // Whether the record keeps the standing rules.
     pub fn sound(self) -> bool
         ensures { result ≡ sound self }
     {
-        is_sound(self)
+        is_sound(&self)
     }
 
     // A new machine, both tables zero. Refused, the tables keep every word and the record is blank: 1 cores not 1 to 16 or cards
@@ -121,8 +108,8 @@ impl Machine {
             let n = cores as u8;
             let d = objects as u8;
             if tables_fit(n, d, committed.len(), pending.len()) {
-                clear(committed);
-                clear(pending);
+                committed.fill(0);
+                pending.fill(0);
                 Outcome {
                     answer: Answer::Ready,
                     machine: fresh(n, d),
@@ -141,7 +128,7 @@ impl Machine {
         ensures rule { result ≡ Rule.release self core job deadline }
         ensures paper { Numbered (lent self [] []) (Rule.Release core job deadline) result.answer }
     {
-        if !is_sound(self) {
+        if !is_sound(&self) {
             return Outcome {
                 answer: Answer::Refused(2),
                 machine: self,
@@ -156,7 +143,7 @@ impl Machine {
         ensures rule { result ≡ Rule.begin self core }
         ensures paper { Numbered (lent self [] []) (Rule.Begin core) result.answer }
     {
-        if !is_sound(self) {
+        if !is_sound(&self) {
             return Outcome {
                 answer: Answer::Refused(2),
                 machine: self,
@@ -172,7 +159,7 @@ impl Machine {
         ensures rule { left result committed.new pending.new ≡ Rule.read (lent self committed.old pending.old) core object }
         ensures paper { Numbered (lent self committed.old pending.old) (Rule.Read core object) result.answer }
     {
-        if !is_sound(self) {
+        if !is_sound(&self) {
             return Outcome {
                 answer: Answer::Refused(2),
                 machine: self,
@@ -201,7 +188,7 @@ impl Machine {
         ensures rule { left result committed.new pending.new ≡ Rule.write (lent self committed.old pending.old) core object value }
         ensures paper { Numbered (lent self committed.old pending.old) (Rule.Write core object value) result.answer }
     {
-        if !is_sound(self) {
+        if !is_sound(&self) {
             return Outcome {
                 answer: Answer::Refused(2),
                 machine: self,
@@ -224,7 +211,7 @@ impl Machine {
         ensures rule { left result committed.new pending.new ≡ Rule.commit (lent self committed.old pending.old) core }
         ensures paper { Numbered (lent self committed.old pending.old) (Rule.Commit core) result.answer }
     {
-        if !is_sound(self) {
+        if !is_sound(&self) {
             return Outcome {
                 answer: Answer::Refused(2),
                 machine: self,
@@ -245,7 +232,7 @@ impl Machine {
         ensures rule { result ≡ Rule.give_up self core }
         ensures paper { Numbered (lent self [] []) (Rule.GiveUp core) result.answer }
     {
-        if !is_sound(self) {
+        if !is_sound(&self) {
             return Outcome {
                 answer: Answer::Refused(2),
                 machine: self,
@@ -260,7 +247,7 @@ impl Machine {
         ensures rule { result ≡ Rule.finish self core }
         ensures paper { Numbered (lent self [] []) (Rule.Finish core) result.answer }
     {
-        if !is_sound(self) {
+        if !is_sound(&self) {
             return Outcome {
                 answer: Answer::Refused(2),
                 machine: self,
