@@ -4,11 +4,14 @@
 
 ghost use Rattle.std.specs.Prelude.{◌≡◌};
 ghost use Rattle.one_core.specs.Parts.{blank_core};
+ghost use Rattle.one_core.specs.Refusal.{answer_of};
 
 pub mod calls;
 pub mod inside;
+mod refusal;
 mod soundness;
 
+pub use refusal::Refusal;
 pub use soundness::{is_blank, is_tidy};
 
 // How many cores a machine has at most, and how many jobs a core's list.
@@ -62,8 +65,20 @@ pub enum Answer {
     Ended,
     // the job's number
     Finished(u16),
-    // the number of the refusal
+    // the refusal's number in document 01 (`Refusal::number`): the claims and the listing speak of numbers, the listing of every one
     Refused(u8),
+}
+
+impl Answer {
+    // What a call hands back: its answer, or its refusal by number.
+    pub fn of(outcome: Result<Answer, Refusal>) -> Answer
+        ensures { result ≡ answer_of outcome }
+    {
+        match outcome {
+            Ok(answer) => answer,
+            Err(refusal) => Answer::from(refusal),
+        }
+    }
 }
 
 impl Core {
