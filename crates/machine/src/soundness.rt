@@ -5,7 +5,6 @@ ghost use Rattle.machine.specs.Sound.{cards_sound, turn_kept, cores_sound, sound
 ghost use Rattle.one_core.specs.Parts.{most_cores};
 
 use crate::{Machine, in_range};
-use one_core::{is_blank, is_tidy};
 
 // Whether no version exceeds the commits, and the places for objects (document 01: cards) that the machine lacks hold zeros. The loop is
 // not left early: so the compiler compares several at a time.
@@ -50,7 +49,7 @@ fn cores_kept(m: &Machine) -> bool
     let mut open: u64 = 0;
     for (c, k) in m.core.iter().enumerate() {
         if c < cores {
-            if !is_tidy(*k, m.objects) {
+            if !k.is_tidy(m.objects) {
                 return false;
             }
             if k.active {
@@ -59,7 +58,7 @@ fn cores_kept(m: &Machine) -> bool
                 }
                 open += 1;
             }
-        } else if !is_blank(*k) {
+        } else if !k.is_blank() {
             return false;
         }
     }
