@@ -12,15 +12,14 @@ mod refusal;
 mod soundness;
 
 pub use refusal::Refusal;
-pub use soundness::{is_blank, is_tidy};
 
 // How many cores a machine has at most, and how many jobs a core's list.
 pub const CORES: usize = 16;
 
 pub const JOBS: usize = 8;
 
-// A job in a core's list.
-#[derive(Clone, Copy)]
+// A job in a core's list. The default stands in an unused place.
+#[derive(Clone, Copy, PartialEq, Eq, Default)]
 pub struct Job {
     pub number: u16,
     pub deadline: u32,
@@ -86,12 +85,8 @@ impl Core {
     pub fn blank() -> Core
         ensures { result ≡ blank_core }
     {
-        let none = Job {
-            number: 0,
-            deadline: 0,
-        };
         Core {
-            jobs: [none; JOBS],
+            jobs: [Job::default(); JOBS],
             count: 0,
             active: false,
             owner: 0,
