@@ -25,7 +25,7 @@ abbrev blank_cores : Machine → Bool
 blank_cores m = each 16 (λ c. blank_on (core_at m c))
 
 -- no cores and cards, and nothing was uncounted
-abbrev uncounted : Machine → Bool
+abbrev pub uncounted : Machine → Bool
 uncounted m = eqb m.cores 0 && eqb m.objects 0 && eqb m.tickets 0 && eqb m.commits 0 && eqb m.give_ups 0
 
 module _ (m : Machine) where
@@ -77,10 +77,9 @@ module _ (m : Machine) where
     pub zero-commits : m.commits ≡ 0
     pub zero-give-ups : m.give_ups ≡ 0
 
-  pub zero-fields : is_blank m ≡ true → Zero
-  unfolding is_blank
+  zero-fields : uncounted m ≡ true → Zero
   zero-fields e =
-      let g = both _ (eqb m.give_ups 0) (both (uncounted m) (no_versions m) (both (uncounted m && no_versions m) (blank_cores m) e).0).0 in
+      let g = both _ (eqb m.give_ups 0) e in
       let d = both _ (eqb m.commits 0) g.0 in
       let t = both _ (eqb m.tickets 0) d.0 in
       let o = both (eqb m.cores 0) (eqb m.objects 0) t.0 in
@@ -93,18 +92,15 @@ module _ (m : Machine) where
       }
 
   -- where these are 0, what is left is the tests of cards and cores
-  pub blank-by-tests : Zero → (cards_sound m && cores_sound m) ≡ is_blank m
+  pub blank-by-tests : (uncounted m && cards_sound m && cores_sound m) ≡ is_blank m
   unfolding is_blank
-  blank-by-tests z =
-      ap₂ ◌&&◌ (no-versions z.zero-objects z.zero-commits)
-      (no-cores z.zero-cores z.zero-tickets z.zero-commits z.zero-give-ups)
-      ∙ rw (
-        eq-eqb m.cores 0 z.zero-cores,
-        eq-eqb m.objects 0 z.zero-objects,
-        eq-eqb m.tickets 0 z.zero-tickets,
-        eq-eqb m.commits 0 z.zero-commits,
-        eq-eqb m.give_ups 0 z.zero-give-ups,
-      ) refl
+  blank-by-tests = go (uncounted m) refl
+    where
+      go : (b : Bool) → uncounted m ≡ b → (b && cards_sound m && cores_sound m) ≡ (b && no_versions m && blank_cores m)
+      go false e = refl
+      go true e =
+          let z = zero-fields e in
+          ap₂ ◌&&◌ (no-versions z.zero-objects z.zero-commits) (no-cores z.zero-cores z.zero-tickets z.zero-commits z.zero-give-ups)
 
 -- ---- the blank record and no other
 
@@ -129,9 +125,10 @@ blank-core-is k f e =
 pub blank-only : (m : Machine) → Formed m → is_blank m ≡ true → m ≡ blank
 unfolding is_blank
 blank-only m f e =
-    let z = zero-fields m e in
     let c = both (uncounted m && no_versions m) (blank_cores m) e in
-    let v = (both (uncounted m) (no_versions m) c.0).1 in
+    let f0 = both (uncounted m) (no_versions m) c.0 in
+    let z = zero-fields m f0.0 in
+    let v = f0.1 in
     let cores : m.core ≡ replicate 16 blank_core =
     ext_get_or no_core m.core (replicate 16 blank_core) (f.core_long ∙ sym (length-replicate 16 blank_core))
     (λ i l.

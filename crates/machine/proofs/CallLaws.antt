@@ -1,6 +1,9 @@
 -- The conditions of refusals, and a call that is lent the tables: refused where a condition holds, accepted where none does.
 use Rattle.std.proofs.Common.{◌≡◌, ℕ, suc, ◌<◌, ◌≤◌, true, false, not, ◌&&◌, sym, ap, ap₂, le-ltb, lt-ltb, eq-eqb}
 use Rattle.one_core.specs.declared.Answer.TheVariants.{Refused}
+use Rattle.one_core.specs.declared.refusal.Refusal.{Refusal}
+use Rattle.one_core.specs.declared.refusal.Refusal.TheVariants.{WrongSize, Unsound, WrongTable, NoSuchCore, NoSuchObject, ListFull, NoJob, InProgress, NoneInProgress, TicketsSpent, Malformed}
+use Rattle.one_core.specs.Refusal.{number}
 use Rattle.machine.specs.declared.Machine.{Machine}
 use Rattle.machine.specs.Sound.{sound}
 use Rattle.machine.specs.Inside.{SoundWorld}
@@ -35,3 +38,18 @@ no-object m d h = ap not (le-ltb d m.objects h)
 
 pub tables-fit : (w : World) → SoundWorld w → wrong_tables w ≡ false
 tables-fit w f = ap not (ap₂ ◌&&◌ (eq-eqb _ _ f.committed_long) (eq-eqb _ _ f.pending_long))
+
+-- refused for whatever reason
+pub refused-by : (w : World) (done : Result) (r : Refusal) → record { answer = Refused (number r); world = w } ≡ unless_lent (number r) w done
+unfolding unless_lent
+refused-by w done WrongSize = refl
+refused-by w done Unsound = refl
+refused-by w done WrongTable = refl
+refused-by w done NoSuchCore = refl
+refused-by w done NoSuchObject = refl
+refused-by w done ListFull = refl
+refused-by w done NoJob = refl
+refused-by w done InProgress = refl
+refused-by w done NoneInProgress = refl
+refused-by w done TicketsSpent = refl
+refused-by w done Malformed = refl

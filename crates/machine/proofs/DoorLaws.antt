@@ -1,7 +1,12 @@
 -- The refusals of the public calls that the inside functions do not know: 2 and 3, and setup's.
-use Rattle.std.proofs.Common.{◌≡◌, ℕ, ◌*◌, Bool, true, false, not, ◌&&◌, eqb, List, length, replicate, ap, ◌∙◌, ap₂, eqb-true}
+use Rattle.std.proofs.Common.{◌≡◌, ℕ, ◌*◌, Bool, cond, Result, Ok, Err, refl, true, false, not, ◌&&◌, eqb, List, length, replicate, ap, ◌∙◌, ap₂, eqb-true}
 use Rattle.objset.proofs.Laws.{both_left, both_right}
 use Rattle.one_core.specs.declared.Answer.TheVariants.{Refused, Ready}
+use Rattle.one_core.specs.declared.refusal.Refusal.{Refusal}
+use Rattle.one_core.specs.declared.refusal.Refusal.TheVariants.{Unsound, WrongTable}
+use Rattle.one_core.specs.Refusal.{number}
+use Rattle.one_core.specs.Calls.{unless_on}
+use Rattle.machine.specs.OneCore.{tested}
 use Rattle.machine.specs.Record.{blank, machine_of, sizes_in_range}
 use Rattle.machine.specs.Sound.{sound}
 use Rattle.machine.specs.Inside.{SoundWorld}
@@ -24,7 +29,7 @@ unsound-refused w call s = refused-with w call 1 (hits _ _ _ (ap not s))
 abbrev both_fit : World → Bool
 both_fit w = eqb (length w.committed) w.machine.objects && eqb (length w.pending) (w.machine.cores * w.machine.objects)
 
-pub fine_of : (w : World) → sound w.machine ≡ true → both_fit w ≡ true → SoundWorld w
+fine_of : (w : World) → sound w.machine ≡ true → both_fit w ≡ true → SoundWorld w
 fine_of w s t =
     record {
       is_sound = s;
@@ -33,11 +38,38 @@ fine_of w s t =
     }
 
 -- a read, a write and a commit are refused
-pub misfit-refused : (w : World) (call : Call) → at call false false true true true false false ≡ true → sound w.machine ≡ true
+misfit-refused : (w : World) (call : Call) → at call false false true true true false false ≡ true → sound w.machine ≡ true
     → both_fit w ≡ false → record { answer = Refused 3; world = w } ≡ rule w call
 unfolding refusals
 misfit-refused w call lends s t =
     refused-with w call 2 (skips _ _ _ (is_sound w.machine s) (hits _ _ _ (ap₂ ◌&&◌ lends (ap not t))))
+
+-- ---- both, as they are tested
+
+pub tested-fine : (w : World) → Ok tt ≡ tested w → SoundWorld w
+unfolding unless_on
+tested-fine w = go (sound w.machine) refl (both_fit w) refl
+  where
+    go : (s : Bool) → sound w.machine ≡ s → (t : Bool) → both_fit w ≡ t
+        → Ok tt ≡ cond (not s) (Err Unsound) (cond (not t) (Err WrongTable) (Ok tt)) → SoundWorld w
+    go true s true t e = fine_of w s t
+    go true s false t e = cc
+    go false s t u e = cc
+
+pub tested-refused : (w : World) (call : Call) (r : Refusal) → at call false false true true true false false ≡ true → Err r ≡ tested w
+    → record { answer = Refused (number r); world = w } ≡ rule w call
+unfolding unless_on
+tested-refused w call r lends = go (sound w.machine) refl (both_fit w) refl
+  where
+    refused : (why : Refusal) → Err r ≡ Err why → record { answer = Refused (number why); world = w } ≡ rule w call
+        → record { answer = Refused (number r); world = w } ≡ rule w call
+    refused why e p = let same : r ≡ why = cc in ap (λ (x : Refusal). record { answer = Refused (number x); world = w }) same ∙ p
+
+    go : (s : Bool) → sound w.machine ≡ s → (t : Bool) → both_fit w ≡ t
+        → Err r ≡ cond (not s) (Err Unsound) (cond (not t) (Err WrongTable) (Ok tt)) → record { answer = Refused (number r); world = w } ≡ rule w call
+    go true s true t e = cc
+    go true s false t e = refused WrongTable e (misfit-refused w call lends s t)
+    go false s t u e = refused Unsound e (unsound-refused w call s)
 
 -- ---- setup
 

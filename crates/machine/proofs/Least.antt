@@ -1,6 +1,6 @@
 -- The number of smallest key among those that pass a test, and the loop that finds the core of smallest ticket among those that hold a
 -- transaction back.
-use Rattle.std.proofs.Common.{◌≡◌, ℕ, zero, suc, ◌<◌, ◌≤◌, Bool, true, false, cond, not, ◌&&◌, ◌||◌, ltb, List, get_or, sym, refl, ap, ◌∙◌, subst, ap₂, true≢false, arith, ltb-false, ltb-true, lt-ltb}
+use Rattle.std.proofs.Common.{◌≡◌, ℕ, zero, suc, ◌<◌, ◌≤◌, Bool, true, false, cond, not, ◌&&◌, ◌||◌, ltb, List, Option, None, Some, get_or, sym, refl, ap, ◌∙◌, subst, ap₂, true≢false, arith, ltb-false, ltb-true, lt-ltb}
 use Rattle.objset.specs.Objset.{some}
 use Rattle.objset.proofs.Laws.{both_left, both_right, one-some}
 use Rattle.one_core.specs.declared.Core.{Core}
@@ -78,15 +78,15 @@ module _ (cores : List Core) (k : Core) where
   so_far e = least_by ticket e holding
 
   -- the cores below e had their turn: ahead is the first of them, and below the ticket to beat
-  pub record Looked (e ahead below : ℕ) : Type 0 where
-    pub found : ahead ≡ cond (some e holding) (so_far e) 16
+  pub record Looked (e : ℕ) (ahead : Option ℕ) (below : ℕ) : Type 0 where
+    pub found : ahead ≡ cond (some e holding) (Some (so_far e)) None
     pub to-beat : below ≡ cond (some e holding) (ticket (so_far e)) k.ticket
 
-  pub looked-none : Looked 0 16 k.ticket
+  pub looked-none : Looked 0 None k.ticket
   unfolding some
   looked-none = record { found = refl; to-beat = refl }
 
-  module _ (e j ahead below : ℕ) (next : j ≡ suc e) (l : Looked e ahead below) where
+  module _ (e j : ℕ) (ahead : Option ℕ) (below : ℕ) (next : j ≡ suc e) (l : Looked e ahead below) where
     -- the three parts of a test
     parts : (t : ℕ) → conflicts_below t (get_or cores e no_core) k ≡ true
         → ((get_or cores e no_core).active ≡ true) × (ltb (ticket e) t ≡ true) × (conflicting k (get_or cores e no_core) ≡ true)
@@ -100,15 +100,15 @@ module _ (cores : List Core) (k : Core) where
     whole t u hit less = let p = parts t hit in ap₂ ◌&&◌ (ap₂ ◌&&◌ p.0 less) p.2
 
     -- this core takes the place
-    pub looked-here : conflicts_below below (get_or cores e no_core) k ≡ true → Looked j e (ticket e)
+    pub looked-here : conflicts_below below (get_or cores e no_core) k ≡ true → Looked j (Some e) (ticket e)
     unfolding some least_by
     looked-here hit =
         let r = go (some e holding) refl (holding e) refl (ltb (ticket e) (ticket (so_far e))) refl l.to-beat in
-        subst (λ (n : ℕ). Looked n e (ticket e)) (sym next) (record { found = r.0; to-beat = r.1 })
+        subst (λ (n : ℕ). Looked n (Some e) (ticket e)) (sym next) (record { found = r.0; to-beat = r.1 })
       where
         go : (s : Bool) → some e holding ≡ s → (p : Bool) → holding e ≡ p → (q : Bool) → ltb (ticket e) (ticket (so_far e)) ≡ q
             → below ≡ cond s (ticket (so_far e)) k.ticket
-            → (e ≡ cond (p || s) (cond s (cond (p && q) e (so_far e)) e) 16)
+            → (Some e ≡ cond (p || s) (Some (cond s (cond (p && q) e (so_far e)) e)) None)
             × (ticket e ≡ cond (p || s) (ticket (cond s (cond (p && q) e (so_far e)) e)) k.ticket)
         go true one true here true t beat = (refl, refl)
         go true one true here false t beat = absurd (true≢false (sym (parts below hit).1 ∙ ap (ltb (ticket e)) beat ∙ t))
@@ -129,8 +129,8 @@ module _ (cores : List Core) (k : Core) where
         subst (λ (n : ℕ). Looked n ahead below) (sym next) (record { found = r.0; to-beat = r.1 })
       where
         go : (s : Bool) → some e holding ≡ s → (p : Bool) → holding e ≡ p → (q : Bool) → ltb (ticket e) (ticket (so_far e)) ≡ q
-            → ahead ≡ cond s (so_far e) 16 → below ≡ cond s (ticket (so_far e)) k.ticket
-            → (ahead ≡ cond (p || s) (cond s (cond (p && q) e (so_far e)) e) 16)
+            → ahead ≡ cond s (Some (so_far e)) None → below ≡ cond s (ticket (so_far e)) k.ticket
+            → (ahead ≡ cond (p || s) (Some (cond s (cond (p && q) e (so_far e)) e)) None)
             × (below ≡ cond (p || s) (ticket (cond s (cond (p && q) e (so_far e)) e)) k.ticket)
         go true one true here true t is beat =
             absurd (true≢false (sym (whole k.ticket below here (ap (ltb (ticket e)) beat ∙ t)) ∙ miss))
@@ -141,14 +141,14 @@ module _ (cores : List Core) (k : Core) where
         go false none false here q t is beat = (is, beat)
 
   -- nobody is looked at for a read-only one
-  waits-for : Bool → ℕ
-  waits-for idle = cond (not idle && some 16 holding) (so_far 16) 16
+  waits-for : Bool → Option ℕ
+  waits-for idle = cond (not idle && some 16 holding) (Some (so_far 16)) None
 
-  pub looked-at-nobody : is_read_only k ≡ true → 16 ≡ first_holding cores k
+  pub looked-at-nobody : is_read_only k ≡ true → None ≡ first_holding cores k
   unfolding waits-for
   looked-at-nobody e = ap waits-for (sym e)
 
   -- all had their turn
-  pub looked-all : (e ahead below : ℕ) → is_read_only k ≡ false → e ≡ 16 → Looked e ahead below → ahead ≡ first_holding cores k
+  pub looked-all : (e : ℕ) (ahead : Option ℕ) (below : ℕ) → is_read_only k ≡ false → e ≡ 16 → Looked e ahead below → ahead ≡ first_holding cores k
   unfolding waits-for
-  looked-all e ahead below wrote all l = l.found ∙ ap (λ (n : ℕ). cond (some n holding) (so_far n) 16) all ∙ ap waits-for (sym wrote)
+  looked-all e ahead below wrote all l = l.found ∙ ap (λ (n : ℕ). cond (some n holding) (Some (so_far n)) None) all ∙ ap waits-for (sym wrote)

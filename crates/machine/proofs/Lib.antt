@@ -9,7 +9,6 @@ mod Facts
 pub mod Front
 mod SetLoop
 pub mod CommitLaws
-pub mod StrikeLoop
 mod SoundLaws
 pub mod BlankLaws
 pub mod Refusals

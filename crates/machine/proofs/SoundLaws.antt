@@ -1,5 +1,6 @@
 -- The laws behind the soundness test: the rules that one core keeps, and the rules gathered core by core.
-use Rattle.std.proofs.Common.{◌≡◌, ℕ, ◌+◌, ◌<◌, ◌≤◌, Bool, true, false, not, ◌&&◌, eqb, ltb, sym, refl, ap, ◌∙◌, ap₂, arith, le-leb}
+use Rattle.std.proofs.Common.{◌≡◌, ℕ, ◌+◌, ◌<◌, ◌≤◌, Bool, true, false, not, ◌&&◌, eqb, ltb, sym, refl, ap, ◌∙◌, ap₂, add-one, arith, le-leb}
+use Rattle.std.proofs.Math.Bool.{and_comm}
 use borrow.Author.Tests.{lt-leb}
 use Rattle.objset.specs.Objset.{each}
 use Rattle.objset.proofs.Laws.{one_each}
@@ -34,6 +35,11 @@ pub tidy-lacked : (m : Machine) (c : ℕ) → m.cores ≤ c → tidy_at m c ≡ 
 tidy-lacked m c l = rw (le-leb m.cores c l) (sym (blank-tidy m.objects (core_at m c)))
 
 -- ---- versions
+
+-- one number more, tested after those below it
+pub each_next : (n : ℕ) (f : ℕ → Bool) → (each n f && f n) ≡ each (n + 1) f
+unfolding each
+each_next n f = and_comm (each n f) (f n) ∙ sym (ap (λ (x : ℕ). each x f) (add-one n))
 
 -- what versions_bounded tests of object d
 abbrev pub card_at : Machine → ℕ → Bool

@@ -3,22 +3,24 @@
 // the whole record and every word of both tables, for every record, sound or not, and every table length.
 #![tactic(auto)]
 
-ghost use Rattle.std.specs.Prelude.{◌≡◌, ◌*◌, ◌&&◌, [], ◌==◌};
+ghost use Rattle.std.specs.Prelude.{◌≡◌, ◌*◌, ◌&&◌, true, [], ◌==◌};
 ghost use Rattle.machine.specs.Sound.{sound, is_blank};
 ghost use Rattle.machine.specs.Rule as Rule;
-ghost use Rattle.machine.specs.Rule.{lent, left};
+ghost use Rattle.machine.specs.Rule.{lent, left, rule};
+ghost use Rattle.machine.specs.OneCore.{call_of, lends, zeroed, handed, tested};
 ghost use Rattle.machine.specs.Record.{blank, sizes_in_range};
-ghost use Rattle.one_core.specs.declared.Answer.TheVariants.{Ready, Refused};
+ghost use Rattle.one_core.specs.declared.Answer.TheVariants.{Ready};
+ghost use Rattle.one_core.specs.Refusal.{answer_of};
 ghost use Rattle.machine.specs.Claims.{EveryRun};
 ghost use Rattle.machine.specs.Refusals.{Numbered, NumberedSetup};
 
 use crate::inside::calls::{access, alone};
-use crate::inside::commit;
-use crate::setup::{clear, fresh};
+use crate::inside::commit::commit;
+use crate::setup::{fresh, set_up};
 use crate::soundness::{all_zero, is_sound};
 use objset::OBJECTS;
 use one_core::calls::Act;
-use one_core::{Answer, CORES, Core};
+use one_core::{Answer, CORES, Core, Refusal};
 
 pub mod inside;
 mod setup;
@@ -54,36 +56,25 @@ const MOST_OBJECTS: u32 = OBJECTS as u32;
 pub fn in_range(cores: u32, objects: u32) -> bool
     ensures { result ≡ sizes_in_range cores objects }
 {
-    if cores < 1 {
-        return false;
-    }
-    if MOST_CORES < cores {
-        return false;
-    }
-    if objects < 1 {
-        return false;
-    }
-    objects <= MOST_OBJECTS
+    1 <= cores && cores <= MOST_CORES && 1 <= objects && objects <= MOST_OBJECTS
 }
 
 // Whether tables of these lengths fit a machine of that many cores and objects.
 fn tables_fit(cores: u8, objects: u8, committed: usize, pending: usize) -> bool
     ensures { result ≡ (committed == objects && pending == cores * objects) }
 {
-    if committed == objects as usize {
-        pending == cores as usize * objects as usize
-    } else {
-        false
-    }
+    committed == objects as usize && pending == cores as usize * objects as usize
 }
 
-// Setup that is refused hands back the blank record.
-fn refused_setup(number: u8) -> Outcome
-    ensures { result ≡ record { answer = Refused number; machine = blank } }
-{
-    Outcome {
-        answer: Answer::Refused(number),
-        machine: fresh(0, 0),
+impl Outcome {
+    // What a call gave on the record, and the record after it.
+    fn of(machine: Machine, given: Result<Answer, Refusal>) -> Outcome
+        ensures { result ≡ record { answer = answer_of given; machine = machine } }
+    {
+        Outcome {
+            machine,
+            answer: Answer::of(given),
+        }
     }
 }
 
@@ -99,14 +90,14 @@ impl Machine {
     pub fn is_blank(self) -> bool
         ensures { result ≡ is_blank self }
     {
-        all_zero(self)
+        all_zero(&self)
     }
 
     // Whether the record keeps the standing rules.
     pub fn sound(self) -> bool
         ensures { result ≡ sound self }
     {
-        is_sound(self)
+        is_sound(&self)
     }
 
     // A new machine, both tables zero. Refused, the tables keep every word and the record is blank: 1 cores not 1 to 16 or cards
@@ -117,21 +108,15 @@ impl Machine {
         ensures runs { result.answer ≡ Ready → EveryRun (lent result.machine committed.new pending.new) }
         ensures paper { NumberedSetup cores objects committed.old pending.old result.answer }
     {
-        if in_range(cores, objects) {
-            let n = cores as u8;
-            let d = objects as u8;
-            if tables_fit(n, d, committed.len(), pending.len()) {
-                clear(committed);
-                clear(pending);
-                Outcome {
-                    answer: Answer::Ready,
-                    machine: fresh(n, d),
-                }
-            } else {
-                refused_setup(3)
-            }
-        } else {
-            refused_setup(1)
+        match set_up(cores, objects, committed, pending) {
+            Ok(machine) => Outcome {
+                machine,
+                answer: Answer::Ready,
+            },
+            Err(refusal) => Outcome {
+                machine: Machine::blank(),
+                answer: Answer::from(refusal),
+            },
         }
     }
 
@@ -141,13 +126,7 @@ impl Machine {
         ensures rule { result ≡ Rule.release self core job deadline }
         ensures paper { Numbered (lent self [] []) (Rule.Release core job deadline) result.answer }
     {
-        if !is_sound(self) {
-            return Outcome {
-                answer: Answer::Refused(2),
-                machine: self,
-            };
-        }
-        alone(self, core, Act::Release(job, deadline))
+        self.unlent(core, Act::Release(job, deadline))
     }
 
     // The running job's transaction gets the next ticket: 2 unsound record, 4 no such core, 7 the core has no job, 8 a transaction
@@ -156,13 +135,7 @@ impl Machine {
         ensures rule { result ≡ Rule.begin self core }
         ensures paper { Numbered (lent self [] []) (Rule.Begin core) result.answer }
     {
-        if !is_sound(self) {
-            return Outcome {
-                answer: Answer::Refused(2),
-                machine: self,
-            };
-        }
-        alone(self, core, Act::Begin)
+        self.unlent(core, Act::Begin)
     }
 
     // The card's pending value if this attempt wrote it, else its committed value, and the committed version; the card joins the
@@ -172,19 +145,7 @@ impl Machine {
         ensures rule { left result committed.new pending.new ≡ Rule.read (lent self committed.old pending.old) core object }
         ensures paper { Numbered (lent self committed.old pending.old) (Rule.Read core object) result.answer }
     {
-        if !is_sound(self) {
-            return Outcome {
-                answer: Answer::Refused(2),
-                machine: self,
-            };
-        }
-        if !tables_fit(self.cores, self.objects, committed.len(), pending.len()) {
-            return Outcome {
-                answer: Answer::Refused(3),
-                machine: self,
-            };
-        }
-        access(self, core, Act::Read(object), committed, pending)
+        self.lent(core, Act::Read(object), committed, pending)
     }
 
     // Stores the pending word; the card joins the write set. A marked transaction is told that it was set back instead. 2 unsound
@@ -201,42 +162,22 @@ impl Machine {
         ensures rule { left result committed.new pending.new ≡ Rule.write (lent self committed.old pending.old) core object value }
         ensures paper { Numbered (lent self committed.old pending.old) (Rule.Write core object value) result.answer }
     {
-        if !is_sound(self) {
-            return Outcome {
-                answer: Answer::Refused(2),
-                machine: self,
-            };
-        }
-        if !tables_fit(self.cores, self.objects, committed.len(), pending.len()) {
-            return Outcome {
-                answer: Answer::Refused(3),
-                machine: self,
-            };
-        }
-        access(self, core, Act::Write(object, value), committed, pending)
+        self.lent(core, Act::Write(object, value), committed, pending)
     }
 
     // The transaction commits, with the count of setbacks, or waits, with the core of the smallest conflicting ticket, or is told that
     // it was set back; one that has written nothing does not wait. 2 unsound record, 3 wrong table, 4 no such core, 9 none in
     // progress. The pending table keeps every word; so does the committed one where the transaction does not commit; refused, the
     // record comes back as given.
-    pub fn commit(self, core: u32, committed: &mut [u32], pending: &mut [u32]) -> Outcome
+    pub fn commit(mut self, core: u32, committed: &mut [u32], pending: &mut [u32]) -> Outcome
         ensures rule { left result committed.new pending.new ≡ Rule.commit (lent self committed.old pending.old) core }
         ensures paper { Numbered (lent self committed.old pending.old) (Rule.Commit core) result.answer }
     {
-        if !is_sound(self) {
-            return Outcome {
-                answer: Answer::Refused(2),
-                machine: self,
-            };
-        }
-        if !tables_fit(self.cores, self.objects, committed.len(), pending.len()) {
-            return Outcome {
-                answer: Answer::Refused(3),
-                machine: self,
-            };
-        }
-        commit::commit(self, core, committed, pending)
+        let given = match self.tested(committed, pending) {
+            Ok(()) => commit(&mut self, core, committed, pending),
+            Err(refusal) => Err(refusal),
+        };
+        Outcome::of(self, given)
     }
 
     // The transaction ends without effect: 2 unsound record, 4 no such core, 9 none in progress. Refused, the record comes back as
@@ -245,13 +186,7 @@ impl Machine {
         ensures rule { result ≡ Rule.give_up self core }
         ensures paper { Numbered (lent self [] []) (Rule.GiveUp core) result.answer }
     {
-        if !is_sound(self) {
-            return Outcome {
-                answer: Answer::Refused(2),
-                machine: self,
-            };
-        }
-        alone(self, core, Act::GiveUp)
+        self.unlent(core, Act::GiveUp)
     }
 
     // The running job leaves the list, the others keep their order; its number is the answer. 2 unsound record, 4 no such core, 7
@@ -260,12 +195,43 @@ impl Machine {
         ensures rule { result ≡ Rule.finish self core }
         ensures paper { Numbered (lent self [] []) (Rule.Finish core) result.answer }
     {
+        self.unlent(core, Act::Finish)
+    }
+
+    // A call that is lent no table: refusal 2, or what the inside function gives.
+    fn unlent(mut self, core: u32, act: Act) -> Outcome
+        ensures { result ≡ handed (rule (zeroed self) (call_of act core)) }
+    {
+        let given = if is_sound(&self) {
+            alone(&mut self, core, act)
+        } else {
+            Err(Refusal::Unsound)
+        };
+        Outcome::of(self, given)
+    }
+
+    // A read or a write: refusals 2 and 3, or what the inside function gives.
+    fn lent(mut self, core: u32, act: Act, committed: &mut [u32], pending: &mut [u32]) -> Outcome
+        requires { lends act ≡ true }
+        ensures { left result committed.new pending.new ≡ rule (lent self committed.old pending.old) (call_of act core) }
+    {
+        let given = match self.tested(committed, pending) {
+            Ok(()) => access(&mut self, core, act, committed, pending),
+            Err(refusal) => Err(refusal),
+        };
+        Outcome::of(self, given)
+    }
+
+    // Whether the record is sound and the tables are of its lengths: refusals 2 and 3.
+    fn tested(&self, committed: &[u32], pending: &[u32]) -> Result<(), Refusal>
+        ensures { result ≡ tested (lent self.now committed.now pending.now) }
+    {
         if !is_sound(self) {
-            return Outcome {
-                answer: Answer::Refused(2),
-                machine: self,
-            };
+            return Err(Refusal::Unsound);
         }
-        alone(self, core, Act::Finish)
+        if !tables_fit(self.cores, self.objects, committed.len(), pending.len()) {
+            return Err(Refusal::WrongTable);
+        }
+        Ok(())
     }
 }

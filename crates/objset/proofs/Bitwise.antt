@@ -4,7 +4,7 @@ use mathlib.Core.Bool.{Bool, true, false, cond, not, ◌&&◌, ◌||◌, true≢
 use Prim.Native.Nat.{ℕ, ◌-◌, ◌*◌, ◌%◌, ◌^◌, ◌≤◌, ◌<◌}
 use native.Mathlib.Omega.{arith}
 use native.Mathlib.Nat.{lt_of_lt_of_le, le_of_lt, one-mul, mod-eq_of_lt}
-use lib.Bits.{bit_and, bit_or, and_lt, or_lt, or_zero_r}
+use lib.Bits.{bit_and, bit_or, and_le_l, and_lt, or_lt, or_zero_r}
 use lib.Dec.{eqb, ltb}
 use lib.Pow.{pow-lt, pow_mono}
 use borrow.Author.Tests.{lt-ltb, le-ltb, ltb-true, ltb-false, eq-eqb, ne_eqb}
@@ -80,6 +80,16 @@ and-not-mask s d hs =
 and-false : (b : Bool) → (b && false) ≡ false
 and-false true = refl
 and-false false = refl
+
+-- a set is a smaller word once an object is taken out
+pub removed-less : (s d : ℕ) → s < 2 ^ 64 → has s d ≡ true → removed s d < s
+removed-less s d hs p =
+    omega (
+      arith,
+      sym (and-not-mask s d hs),
+      and_le_l s (2 ^ 64 - 1 - mask_of d),
+      (λ (e : removed s d ≡ s). true≢false (sym p ∙ ap (λ (x : ℕ). has x d) (sym e) ∙ has-removed s d d hs ∙ rw (eq-eqb d d refl) (and-false (has s d)))),
+    )
 
 -- `a & b` is not 0 if and only if a and b meet
 pub and-meeting : (a b : ℕ) → a < 2 ^ 64 → b < 2 ^ 64 → not (eqb (bit_and a b) 0) ≡ meeting a b

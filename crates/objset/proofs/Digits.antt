@@ -10,6 +10,8 @@ use lib.Count.{count_trailing_zeros, under}
 use lib.Dec.{eqb, ltb, eqb-zero-suc, eqb-suc-zero, eqb-suc-suc}
 use lib.Pow.{pow_mono, shr-shr}
 use borrow.Author.Tests.{eqb-true, eqb-false, lt-ltb, le-ltb, ltb-true, ltb-false}
+use Rattle.std.specs.Prelude.{None, Some}
+use Rattle.std.specs.Option.{option_map}
 use Rattle.objset.specs.Objset.{has, collect, first_passing}
 
 -- ---- one digit
@@ -178,16 +180,23 @@ has-collect (suc n) d f =
 
 -- ---- the first digit that is 1
 
--- the digits below it are the trailing zeros
-pub trailing-first : (k n : ℕ) → count_trailing_zeros k n ≡ first_passing k (has n)
+-- the digits below it are the trailing zeros; where none of the first k is 1, there are k of them
+pub trailing-first : (k n : ℕ) → first_passing k (has n) ≡ cond (ltb (count_trailing_zeros k n) k) (Some (count_trailing_zeros k n)) None
 unfolding count_trailing_zeros first_passing
 trailing-first zero n = refl
 trailing-first (suc k) n =
-    go (n % 2) (mod-lt n (zero-lt-suc 1)) (trailing-first k (n / 2) ∙ ap (first_passing k) (fun_ext (λ e. sym (has-half n e))))
-    ∙ ap (λ (b : Bool). cond b 0 (suc (first_passing k (λ e. has n (suc e))))) (sym (has_first n))
+    ap (λ (b : Bool). cond b (Some 0) (option_map suc (first_passing k (λ e. has n (suc e))))) (has_first n)
+    ∙ go (n % 2) (mod-lt n (zero-lt-suc 1)) (ap (first_passing k) (fun_ext (λ e. has-half n e)) ∙ trailing-first k (n / 2))
   where
-    go : (u : ℕ) → u < 2 → count_trailing_zeros k (n / 2) ≡ first_passing k (λ e. has n (suc e))
-        → under u (count_trailing_zeros k (n / 2)) ≡ cond (eqb u 1) 0 (suc (first_passing k (λ e. has n (suc e))))
-    go zero h e = ap suc e
-    go (suc zero) h e = refl
+    t : ℕ
+    t = count_trailing_zeros k (n / 2)
+
+    later : (b : Bool) → ltb t k ≡ b → option_map suc (cond b (Some t) None) ≡ cond (ltb (suc t) (suc k)) (Some (suc t)) None
+    later true e = rw (lt-ltb (suc t) (suc k) (omega (arith, ltb-true t k e))) refl
+    later false e = rw (le-ltb (suc t) (suc k) (omega (arith, ltb-false t k e))) refl
+
+    go : (u : ℕ) → u < 2 → first_passing k (λ e. has n (suc e)) ≡ cond (ltb t k) (Some t) None
+        → cond (eqb u 1) (Some 0) (option_map suc (first_passing k (λ e. has n (suc e)))) ≡ cond (ltb (under u t) (suc k)) (Some (under u t)) None
+    go zero h e = ap (option_map suc) e ∙ later (ltb t k) refl
+    go (suc zero) h e = rw (lt-ltb 0 (suc k) (omega arith)) refl
     go (suc (suc u)) h e = absurd (omega arith)

@@ -5,7 +5,9 @@ use mathlib.Core.Bool.{Bool, true, false, cond, not, ◌&&◌, ◌||◌, or-true
 use Prim.Native.Nat.{ℕ, zero, suc, ◌^◌, ◌≤◌, ◌<◌}
 use native.Mathlib.Omega.{arith}
 use lib.Dec.{eqb, ltb}
-use borrow.Author.Tests.{ltb-true, ltb-false, lt-ltb, eqb-true, eqb-false, ne_eqb, not-false, not-true}
+use borrow.Author.Tests.{ltb-true, ltb-false, lt-ltb, eqb-true, eqb-false, ne_eqb, not-false}
+use Rattle.std.specs.Prelude.{Option, None, Some}
+use Rattle.std.specs.Option.{is_some, option_map, unwrap_or}
 use Rattle.objset.specs.Objset.{has, collect, some, each, first_passing, none, is_empty, first_object, added, removed, joined, meeting, below}
 use Rattle.objset.proofs.Digits.{has-past, same_digits, collect-fits, has-collect}
 
@@ -36,6 +38,12 @@ and_comm true true = refl
 and_comm true false = refl
 and_comm false true = refl
 and_comm false false = refl
+
+none≢some : (d : ℕ) → None ≡ Some d → ⊥
+none≢some d e = true≢false (sym (ap is_some e))
+
+some_same : (d e : ℕ) → Some d ≡ Some e → d ≡ e
+some_same d e p = ap (λ (o : Option ℕ). unwrap_or o 0) p
 
 -- if one of the first n objects passes, that one can be named
 pub some_one : (n : ℕ) (f : ℕ → Bool) → some n f ≡ true → (d : ℕ) × (d < n) × (f d ≡ true)
@@ -74,41 +82,52 @@ unfolding each
 one_each zero f h = refl
 one_each (suc n) f h = ap₂ ◌&&◌ (h n (omega arith)) (one_each n f (λ d l. h d (omega arith)))
 
--- no object before the first that passes does; it passes itself, where it is one of the first n
-first-within : (n : ℕ) (f : ℕ → Bool) → first_passing n f ≤ n
+-- the first that passes is one of the first n objects and passes, and none before it does
+first-within : (n : ℕ) (f : ℕ → Bool) (d : ℕ) → first_passing n f ≡ Some d → d < n
 unfolding first_passing
-first-within zero f = omega arith
-first-within (suc n) f = go (f 0) (first-within n (λ e. f (suc e)))
+first-within zero f d e = absurd (none≢some d e)
+first-within (suc n) f d e = go (f 0) (first_passing n (λ x. f (suc x))) e (first-within n (λ x. f (suc x)))
   where
-    go : (b : Bool) → first_passing n (λ e. f (suc e)) ≤ n → cond b 0 (suc (first_passing n (λ e. f (suc e)))) ≤ suc n
-    go true h = omega arith
-    go false h = omega arith
+    go : (b : Bool) (r : Option ℕ) → cond b (Some 0) (option_map suc r) ≡ Some d → ((k : ℕ) → r ≡ Some k → k < n) → d < suc n
+    go true r e more = omega (arith, some_same 0 d e)
+    go false None e more = absurd (none≢some d e)
+    go false (Some k) e more = omega (arith, some_same (suc k) d e, more k refl)
 
-first-before : (n : ℕ) (f : ℕ → Bool) (d : ℕ) → d < first_passing n f → f d ≡ false
+first_passes : (n : ℕ) (f : ℕ → Bool) (d : ℕ) → first_passing n f ≡ Some d → f d ≡ true
 unfolding first_passing
-first-before zero f d h = absurd (omega arith)
-first-before (suc n) f zero h = go (f 0) refl h
+first_passes zero f d e = absurd (none≢some d e)
+first_passes (suc n) f d e = go (f 0) refl (first_passing n (λ x. f (suc x))) e (first_passes n (λ x. f (suc x)))
   where
-    go : (b : Bool) → f 0 ≡ b → 0 < cond b 0 (suc (first_passing n (λ e. f (suc e)))) → b ≡ false
-    go true p l = absurd (omega arith)
-    go false p l = refl
-first-before (suc n) f (suc d) h = first-before n (λ e. f (suc e)) d (go (f 0) h)
-  where
-    go : (b : Bool) → suc d < cond b 0 (suc (first_passing n (λ e. f (suc e)))) → d < first_passing n (λ e. f (suc e))
-    go true l = absurd (omega arith)
-    go false l = omega arith
+    go : (b : Bool) → f 0 ≡ b → (r : Option ℕ) → cond b (Some 0) (option_map suc r) ≡ Some d
+        → ((k : ℕ) → r ≡ Some k → f (suc k) ≡ true) → f d ≡ true
+    go true p r e more = ap f (sym (some_same 0 d e)) ∙ p
+    go false p None e more = absurd (none≢some d e)
+    go false p (Some k) e more = ap f (sym (some_same (suc k) d e)) ∙ more k refl
 
-first_passes : (n : ℕ) (f : ℕ → Bool) → first_passing n f < n → f (first_passing n f) ≡ true
+first-before : (n : ℕ) (f : ℕ → Bool) (d : ℕ) → first_passing n f ≡ Some d → (e : ℕ) → e < d → f e ≡ false
 unfolding first_passing
-first_passes zero f h = absurd (omega arith)
-first_passes (suc n) f h = go (f 0) refl h (first_passes n (λ e. f (suc e)))
+first-before zero f d p e h = absurd (none≢some d p)
+first-before (suc n) f d p e h = go (f 0) refl (first_passing n (λ x. f (suc x))) p (first-before n (λ x. f (suc x))) e h
   where
-    later : ℕ
-    later = first_passing n (λ e. f (suc e))
+    go : (b : Bool) → f 0 ≡ b → (r : Option ℕ) → cond b (Some 0) (option_map suc r) ≡ Some d
+        → ((k : ℕ) → r ≡ Some k → (e : ℕ) → e < k → f (suc e) ≡ false) → (e : ℕ) → e < d → f e ≡ false
+    go true q r p more e h = absurd (omega (arith, some_same 0 d p))
+    go false q None p more e h = absurd (none≢some d p)
+    go false q (Some k) p more zero h = q
+    go false q (Some k) p more (suc e) h = more k refl e (omega (arith, some_same (suc k) d p))
 
-    go : (b : Bool) → f 0 ≡ b → cond b 0 (suc later) < suc n → (later < n → f (suc later) ≡ true) → f (cond b 0 (suc later)) ≡ true
-    go true p l more = p
-    go false p l more = more (omega arith)
+-- where there is no first that passes, none of the first n does
+none_passes : (n : ℕ) (f : ℕ → Bool) → first_passing n f ≡ None → (d : ℕ) → d < n → f d ≡ false
+unfolding first_passing
+none_passes zero f p d h = absurd (omega arith)
+none_passes (suc n) f p d h = go (f 0) refl (first_passing n (λ x. f (suc x))) p (none_passes n (λ x. f (suc x))) d h
+  where
+    go : (b : Bool) → f 0 ≡ b → (r : Option ℕ) → cond b (Some 0) (option_map suc r) ≡ None
+        → (r ≡ None → (d : ℕ) → d < n → f (suc d) ≡ false) → (d : ℕ) → d < suc n → f d ≡ false
+    go true q r p more d h = absurd (none≢some 0 (sym p))
+    go false q (Some k) p more d h = absurd (none≢some (suc k) (sym p))
+    go false q None p more zero h = q
+    go false q None p more (suc d) h = more refl d (omega arith)
 
 -- ---- sets are known by their members
 
@@ -246,50 +265,31 @@ removed-fits s d = collect-fits 64 (λ e. has s e && not (eqb e d))
 
 -- ---- the first object
 
-pub first-least : (s d : ℕ) → d < first_object s → has s d ≡ false
+-- it is in the set, and no object before it is
+pub first_member : (s d : ℕ) → first_object s ≡ Some d → has s d ≡ true
+unfolding first_object
+first_member s = first_passes 64 (has s)
+
+pub first-least : (s d : ℕ) → first_object s ≡ Some d → (e : ℕ) → e < d → has s e ≡ false
 unfolding first_object
 first-least s = first-before 64 (has s)
 
--- the first object of a set that is not empty is in it
-pub first_member : (s : ℕ) → is_empty s ≡ false → has s (first_object s) ≡ true
+-- there is none if and only if the set is empty
+pub no_first : (s : ℕ) → s < 2 ^ 64 → first_object s ≡ None → is_empty s ≡ true
 unfolding first_object
-first_member s e = first_passes 64 (has s) (go (ltb (first_object s) 64) refl)
+no_first s hs e = has-empty s (λ d. go d (ltb d 64) refl)
   where
-    go : (b : Bool) → ltb (first_object s) 64 ≡ b → first_object s < 64
-    go true t = ltb-true (first_object s) 64 t
-    go false t =
-        let m = filled-one s e in
-        absurd (true≢false (sym m.2 ∙ first-least s m.0 (omega (arith, m.1, ltb-false (first_object s) 64 t))))
+    go : (d : ℕ) (b : Bool) → ltb d 64 ≡ b → has s d ≡ false
+    go d true t = none_passes 64 (has s) e d (ltb-true d 64 t)
+    go d false t = has-outside s d hs (ltb-false d 64 t)
 
-pub first-none : (s : ℕ) → is_empty s ≡ true → first_object s ≡ 64
+pub first-none : (s : ℕ) → is_empty s ≡ true → first_object s ≡ None
 unfolding first_object
-first-none s e = go (ltb (first_object s) 64) refl
+first-none s e = go (first_object s) refl
   where
-    go : (b : Bool) → ltb (first_object s) 64 ≡ b → first_object s ≡ 64
-    go true t =
-        let l = ltb-true (first_object s) 64 t in
-        absurd (true≢false (sym e ∙ one-filled s (first_object s) l (first_passes 64 (has s) l)))
-    go false t = omega (arith, first-within 64 (has s), ltb-false (first_object s) 64 t)
-
--- once it is taken out, the first object is a later one
-pub first_next : (s : ℕ) → s < 2 ^ 64 → is_empty s ≡ false → first_object s < first_object (removed s (first_object s))
-first_next s hs e = go (is_empty (removed s d)) refl
-  where
-    d : ℕ
-    d = first_object s
-
-    -- another object of s is no earlier one
-    later : (x : ℕ) → (has s x && not (eqb x d)) ≡ true → (b : Bool) → ltb d x ≡ b → d < x
-    later x p true t = ltb-true d x t
-    later x p false t =
-        let other = eqb-false x d (not-true (eqb x d) (both_right (has s x) (not (eqb x d)) p)) in
-        absurd (true≢false (sym (both_left (has s x) (not (eqb x d)) p) ∙ first-least s x (omega (arith, other, ltb-false d x t))))
-
-    go : (b : Bool) → is_empty (removed s d) ≡ b → d < first_object (removed s d)
-    go true t = omega (arith, first-none (removed s d) t, member-bound s d hs (first_member s e))
-    go false t =
-        let x = first_object (removed s d) in
-        later x (sym (has-removed s d x hs) ∙ first_member (removed s d) t) (ltb d x) refl
+    go : (r : Option ℕ) → first_object s ≡ r → r ≡ None
+    go None p = refl
+    go (Some d) p = absurd (true≢false (sym e ∙ one-filled s d (first-within 64 (has s) d p) (first_member s d p)))
 
 -- ---- meeting
 

@@ -1,4 +1,4 @@
 pub mod Digits
 pub mod Laws
 pub mod WordLaws
-mod Bitwise
+pub mod Bitwise

@@ -1,5 +1,7 @@
 -- Sets of objects (document 01: sets of cards), said by membership of each object from 0 to 63.
 use Rattle.std.specs.Prelude.{Bool, true, false, cond, not, ◌&&◌, ◌||◌, ℕ, zero, suc, ◌+◌, ◌/◌, ◌%◌, ◌^◌, eqb, ltb}
+use Rattle.std.specs.Prelude.{Option, None, Some}
+use Rattle.std.specs.Option.{option_map}
 
 -- object d is in the set s: the digit of s whose mask (document 01: mark) is 2 to the power d is 1
 unfoldable pub has : ℕ → ℕ → Bool
@@ -20,10 +22,10 @@ unfoldable pub each : ℕ → (ℕ → Bool) → Bool
 each zero f = true
 each (suc n) f = f n && each n f
 
--- the first of the first n objects that passes the test f; n where none does
-unfoldable pub first_passing : ℕ → (ℕ → Bool) → ℕ
-first_passing zero f = 0
-first_passing (suc n) f = cond (f 0) 0 (suc (first_passing n (λ e. f (suc e))))
+-- the first of the first n objects that passes the test f, if one does
+unfoldable pub first_passing : ℕ → (ℕ → Bool) → Option ℕ
+first_passing zero f = None
+first_passing (suc n) f = cond (f 0) (Some 0) (option_map suc (first_passing n (λ e. f (suc e))))
 
 -- how many objects there are at most (document 01: 64 cards)
 abbrev pub most_objects : ℕ
@@ -41,8 +43,8 @@ none = collect most_objects (λ e. false)
 unfoldable pub is_empty : ℕ → Bool
 is_empty s = not (some most_objects (has s))
 
--- the first object of the set; 64, which is no object, where it is empty
-unfoldable pub first_object : ℕ → ℕ
+-- the first object of the set, if it is not empty
+unfoldable pub first_object : ℕ → Option ℕ
 first_object s = first_passing most_objects (has s)
 
 -- the set s with object d added

@@ -38,19 +38,18 @@ pub fn is_empty(s: u64) -> bool
 pub fn contains(s: u64, d: usize) -> bool
     ensures { result ≡ has s d }
 {
-    if d < OBJECTS {
-        (s >> d) % 2 == 1
-    } else {
-        false
-    }
+    d < OBJECTS && (s >> d) % 2 == 1
 }
 
-// The first object of the set, OBJECTS where it is empty. A caller goes over the objects of a set by taking the first one out, until the set
-// is empty.
-pub fn first(s: u64) -> usize
+// The first object of the set, if it is not empty. A caller goes over the objects of a set by taking the first one out, until there is none.
+pub fn first(s: u64) -> Option<usize>
     ensures { result ≡ first_object s }
 {
-    u64::trailing_zeros(s) as usize
+    if is_empty(s) {
+        None
+    } else {
+        Some(s.trailing_zeros() as usize)
+    }
 }
 
 // The set s with object d added: s itself, where d is 64 or more.
@@ -85,5 +84,5 @@ pub fn meets(a: u64, b: u64) -> bool
 pub fn within(s: u64, n: usize) -> bool
     ensures { result ≡ below s n }
 {
-    if n < OBJECTS { s < (1 << n) } else { true }
+    OBJECTS <= n || s < (1 << n)
 }

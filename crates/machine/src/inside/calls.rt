@@ -1,114 +1,106 @@
-// The calls that concern one core: the core is taken out of the record, the call is made on it, and it is put back.
-// `alone` asks for a sound record, `access` for tables of the right lengths too.
-ghost use Rattle.std.specs.Prelude.{◌≡◌, true};
+// The calls that concern one core: the core and the card are found, the call is made on the core, and what it leaves is stored. A refusal
+// leaves all as it was. `alone` asks for a sound record, `access` for tables of the right lengths too.
+ghost use Rattle.std.specs.Prelude.{◌≡◌, ◌<◌, true};
 ghost use Rattle.machine.specs.Sound.{sound};
 ghost use Rattle.machine.specs.Inside.{SoundWorld};
 ghost use Rattle.machine.specs.Rule.{lent, left, rule};
-ghost use Rattle.machine.specs.OneCore.{found, call_of, zeroed, handed};
+ghost use Rattle.machine.specs.OneCore.{found, found_core, call_of, zeroed, handed, sees, acted_at, with_acted};
+ghost use Rattle.machine.specs.Record.{core_at};
+ghost use Rattle.one_core.specs.Calls.{Fits};
+ghost use Rattle.one_core.specs.Parts.{most_cores};
+ghost use Rattle.one_core.specs.Refusal.{answer_of};
+ghost use Rattle.objset.specs.Objset.{most_objects};
 
-use crate::{Machine, Outcome};
-use one_core::Answer;
-use one_core::calls::{Act, Seen, object_of};
+use crate::Machine;
+use one_core::calls::{Act, Seen};
 use one_core::inside::calls::act_on;
+use one_core::{Answer, Refusal};
 
-// Where a call finds its core and its object (document 01: card): their places, or the number of the refusal with places that every
-// machine has.
+// The places of the core and of the object (document 01: card) that a call is for.
 #[derive(Clone, Copy)]
-pub struct Found {
+pub struct Place {
     pub core: usize,
     pub object: usize,
-    pub refusal: u8,
 }
 
-// Where a machine of that many cores and objects has this core and this object: 4 no such core, 5 no such object.
-pub fn find(core: u32, object: u32, cores: u8, objects: u8) -> Found
-    ensures { result ≡ found core object cores objects }
+// The place of this core, where the machine has it.
+pub fn find_core(m: &Machine, core: u32) -> Result<usize, Refusal>
+    ensures { result ≡ found_core core m.now.cores }
 {
-    if cores as u32 <= core {
-        return Found {
-            core: 0,
-            object: 0,
-            refusal: 4,
-        };
-    }
-    if objects as u32 <= object {
-        return Found {
-            core: 0,
-            object: 0,
-            refusal: 5,
-        };
-    }
-    Found {
-        core: core as usize,
-        object: object as usize,
-        refusal: 0,
+    if core < m.cores as u32 {
+        Ok(core as usize)
+    } else {
+        Err(Refusal::NoSuchCore)
     }
 }
 
-// The same for a call that names no object: 4 no such core.
-pub fn find_core(core: u32, cores: u8) -> Found
-    ensures { result ≡ found core 0 cores 1 }
+// The places of this core and of this object, where the machine has both.
+pub fn find(m: &Machine, core: u32, object: u32) -> Result<Place, Refusal>
+    ensures { result ≡ found core object m.now.cores m.now.objects }
 {
-    find(core, 0, cores, 1)
+    let core = find_core(m, core)?;
+    if object < m.objects as u32 {
+        Ok(Place {
+            core,
+            object: object as usize,
+        })
+    } else {
+        Err(Refusal::NoSuchObject)
+    }
+}
+
+// The call at these places, where it sees this committed value and this pending one.
+fn act_at(
+    m: &mut Machine,
+    at: Place,
+    act: Act,
+    committed: u32,
+    pending: &mut u32,
+) -> Result<Answer, Refusal>
+    requires there { at.core < most_cores }
+    requires card { at.object < most_objects }
+    requires fits { Fits (core_at m.old at.core) (sees m.old at.object committed pending.old) }
+    ensures left { m.new ≡ with_acted m.old at.core (acted_at m.old at act committed pending.old) }
+    ensures word { pending.new ≡ (acted_at m.old at act committed pending.old).pending }
+    ensures answer { answer_of result ≡ (acted_at m.old at act committed pending.old).answer }
+{
+    let seen = Seen {
+        tickets: m.tickets,
+        give_ups: m.give_ups,
+        committed,
+        pending: *pending,
+        version: m.versions[at.object],
+    };
+    let done = act_on(act, m.core[at.core], seen)?;
+    m.core[at.core] = done.core;
+    m.tickets = done.tickets;
+    m.give_ups = done.give_ups;
+    *pending = done.pending;
+    Ok(done.answer)
 }
 
 // A call that is lent no table: release, begin, give up, finish. (A read or a write would find tables of zeros.)
-pub fn alone(mut m: Machine, core: u32, a: Act) -> Outcome
-    requires { sound m ≡ true }
-    ensures { result ≡ handed (rule (zeroed m) (call_of a core)) }
+pub fn alone(m: &mut Machine, core: u32, act: Act) -> Result<Answer, Refusal>
+    requires { sound m.old ≡ true }
+    ensures { record { answer = answer_of result; machine = m.new } ≡ handed (rule (zeroed m.old) (call_of act core)) }
 {
-    let to = find(core, object_of(a), m.cores, m.objects);
-    let c = to.core;
-    let d = to.object;
-    let k = m.core[c];
-    let seen = Seen {
-        tickets: m.tickets,
-        give_ups: m.give_ups,
-        committed: 0,
-        pending: 0,
-        version: m.versions[d],
-    };
-    let done = act_on(to.refusal, a, k, seen);
-    let after = done.core;
-    m.core[c] = after;
-    m.tickets = done.tickets;
-    m.give_ups = done.give_ups;
-    let answer = done.answer;
-    Outcome { answer, machine: m }
+    let at = find(m, core, act.object())?;
+    let mut word = 0;
+    act_at(m, at, act, 0, &mut word)
 }
 
 // A call that is lent the tables: read, write.
-pub fn access(mut m: Machine, core: u32, a: Act, committed: &[u32], pending: &mut [u32]) -> Outcome
-    requires { SoundWorld (lent m committed.now pending.old) }
-    ensures { left result committed.now pending.new ≡ rule (lent m committed.now pending.old) (call_of a core) }
-{
-    let to = find(core, object_of(a), m.cores, m.objects);
-    let c = to.core;
-    let d = to.object;
-    let at = c * m.objects as usize + d;
-    let k = m.core[c];
-    let seen = Seen {
-        tickets: m.tickets,
-        give_ups: m.give_ups,
-        committed: committed[d],
-        pending: pending[at],
-        version: m.versions[d],
-    };
-    let done = act_on(to.refusal, a, k, seen);
-    let after = done.core;
-    m.core[c] = after;
-    m.tickets = done.tickets;
-    m.give_ups = done.give_ups;
-    pending[at] = done.pending;
-    let answer = done.answer;
-    Outcome { answer, machine: m }
-}
-
-pub fn access_in(m: &mut Machine, core: u32, a: Act, committed: &[u32], pending: &mut [u32]) -> Answer
+pub fn access(
+    m: &mut Machine,
+    core: u32,
+    act: Act,
+    committed: &[u32],
+    pending: &mut [u32],
+) -> Result<Answer, Refusal>
     requires { SoundWorld (lent m.old committed.now pending.old) }
-    ensures { record { answer = result; world = lent m.new committed.now pending.new } ≡ rule (lent m.old committed.now pending.old) (call_of a core) }
+    ensures { left (record { answer = answer_of result; machine = m.new }) committed.now pending.new ≡ rule (lent m.old committed.now pending.old) (call_of act core) }
 {
-    let o = access(*m, core, a, committed, pending);
-    *m = o.machine;
-    o.answer
+    let at = find(m, core, act.object())?;
+    let slot = at.core * m.objects as usize + at.object;
+    act_at(m, at, act, committed[at.object], &mut pending[slot])
 }

@@ -3,16 +3,15 @@ use mathlib.Core.Path.{◌∙◌, ap, sym}
 use Prim.Native.Nat.{ℕ}
 use lib.Dec.{ltb}
 use borrow.Author.Rules.{rules}
+use borrow.Author.Tests.{le-leb}
 use Rattle.objset.proofs.Bitwise.{shifted_one, less-below, all-below}
 use Rattle.objset.proofs.within.Goals as goal
 
-pub overflow_shl-result : goal.overflow_shl-result
-overflow_shl-result c = search rules
+pub returns-then-n-ge-OBJECTS : goal.returns-then-n-ge-OBJECTS
+returns-then-n-ge-OBJECTS c =
+    le-leb 64 c.args.n (search rules) ∙ sym (all-below c.args.s c.args.n (search rules) (search rules))
 
-pub returns-then-n-lt-OBJECTS : goal.returns-then-n-lt-OBJECTS
-returns-then-n-lt-OBJECTS c =
+pub returns-else-n-ge-OBJECTS : goal.returns-else-n-ge-OBJECTS
+returns-else-n-ge-OBJECTS c =
     ap (λ (m : ℕ). ltb c.args.s m) (shifted_one c.args.n (search rules))
     ∙ less-below c.args.s c.args.n (search rules) (search rules)
-
-pub returns-else-n-lt-OBJECTS : goal.returns-else-n-lt-OBJECTS
-returns-else-n-lt-OBJECTS c = sym (all-below c.args.s c.args.n (search rules) (search rules))

@@ -9,69 +9,57 @@ use crate::{Core, JOBS, Job};
 const LAST: usize = JOBS - 1;
 
 // The place of the job of least deadline among the first n, the first released among equals.
-pub fn least_of(jobs: [Job; JOBS], n: u8) -> u8
+pub fn least_of(jobs: &[Job; JOBS], n: u8) -> u8
     requires { n ≤ most_jobs }
-    ensures { result ≡ least jobs n }
+    ensures { result ≡ least jobs.now n }
 {
-    let mut best: u8 = 0;
-    let mut i: u8 = 1;
-    while i < n {
+    let mut best = 0;
+    for i in 1..n {
         if jobs[i as usize].deadline < jobs[best as usize].deadline {
             best = i;
         }
-        i += 1;
     }
     best
 }
 
-// The place of the running job: the transaction's own job while one is in progress, else the job of least deadline.
-pub fn running_of(k: Core) -> u8
-    requires { k.count ≤ most_jobs }
-    ensures { result ≡ running k }
-{
-    if k.active {
-        return k.owner;
+impl Core {
+    // The place of the running job: the transaction's own job while one is in progress, else the job of least deadline.
+    #[tactic(auto, unfolding(crate::specs::Parts::running))]
+    pub fn running(&self) -> u8
+        requires { self.now.count ≤ most_jobs }
+        ensures { result ≡ running self.now }
+    {
+        if self.active {
+            self.owner
+        } else {
+            least_of(&self.jobs, self.count)
+        }
     }
-    let jobs = k.jobs;
-    least_of(jobs, k.count)
-}
 
-// The core with a job at the end of its list; its transaction stays.
-pub fn join(mut k: Core, number: u16, deadline: u32) -> Core
-    requires { k.count < most_jobs }
-    ensures { result ≡ with_job k (record { number = number; deadline = deadline }) }
-{
-    let place = k.count as usize;
-    k.jobs[place] = Job { number, deadline };
-    k.count = k.count + 1;
-    k
+    // The job joins the end of the list; the transaction stays.
+    pub fn join(&mut self, job: Job)
+        requires { self.old.count < most_jobs }
+        ensures { self.new ≡ with_job self.old job }
+    {
+        self.jobs[self.count as usize] = job;
+        self.count += 1;
+    }
+
+    // The job at place p leaves the list; the transaction stays.
+    pub fn leave(&mut self, p: usize)
+        requires { (p < most_jobs) × (0 < self.old.count) }
+        ensures { self.new ≡ without_job self.old p }
+    {
+        remove(&mut self.jobs, p);
+        self.count -= 1;
+    }
 }
 
 // The list without the job at place p: the jobs after it move up by one, in their order, and the last place holds zeros.
-fn remove(mut jobs: [Job; JOBS], p: usize) -> [Job; JOBS]
+fn remove(jobs: &mut [Job; JOBS], p: usize)
     requires { p < most_jobs }
-    ensures { result ≡ without jobs p }
+    ensures { jobs.new ≡ without jobs.old p }
 {
-    let mut i = p;
-    while i < LAST {
-        jobs[i] = jobs[i + 1];
-        i += 1;
-    }
-    jobs[LAST] = Job {
-        number: 0,
-        deadline: 0,
-    };
-    jobs
-}
-
-// The core without the job at place p of its list; its transaction stays.
-pub fn leave(mut k: Core, p: usize) -> Core
-    requires { (p < most_jobs) × (0 < k.count) }
-    ensures { result ≡ without_job k p }
-{
-    let jobs = k.jobs;
-    let rest = remove(jobs, p);
-    k.jobs = rest;
-    k.count = k.count - 1;
-    k
+    jobs.copy_within(p + 1.., p);
+    jobs[LAST] = Job::default();
 }

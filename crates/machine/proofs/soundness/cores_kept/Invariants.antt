@@ -1,12 +1,9 @@
 -- `machine::soundness::cores_kept` meets its contract: each core passed keeps the rules, and each transaction is counted.
-use Rattle.std.proofs.Common.{◌≡◌, ◌-◌, ◌≤◌, true}
+use Rattle.std.proofs.Common.{◌≡◌, ◌≤◌, true}
 use Rattle.objset.specs.Objset.{each}
 use Rattle.machine.specs.Record.{active_at, tally}
 use Rattle.machine.proofs.SoundLaws.{kept_at}
 use Rattle.machine.proofs.soundness.cores_kept.Given as goal
 
 abbrev pub invariant-loop-c : goal.invariant-loop-c
-invariant-loop-c l = (l.c ≤ 16) × (l.n ≤ l.c) × (l.n ≡ tally l.c (active_at l.m)) × (each l.c (kept_at l.m) ≡ true)
-
-abbrev pub decreases-loop-c : goal.decreases-loop-c
-decreases-loop-c l = 16 - l.c
+invariant-loop-c l = (l.open ≤ l.c) × (l.open ≡ tally l.c (active_at l.m)) × (each l.c (kept_at l.m) ≡ true)

@@ -1,21 +1,20 @@
 -- `machine::soundness::is_sound` meets its contract.
-use Rattle.one_core.proofs.TestLaws.{holds, breaks}
-use Rattle.machine.specs.Sound.{in_range}
-use Rattle.machine.proofs.SoundLaws.{out_of_range, unbounded, by-cores}
+use Rattle.std.proofs.Common.{◌≡◌, Bool, ◌&&◌, sym, ap, ◌∙◌, arith, rules}
+use Rattle.std.proofs.lemmas.Grind.{common_steps}
+use Rattle.machine.specs.Sound.{in_range, cards_sound, cores_sound}
+use Rattle.machine.proofs.SoundLaws.{sound-parts}
 use Rattle.machine.proofs.soundness.is_sound.Goals as goal
 
-pub returns-then-not-in_range : goal.returns-then-not-in_range
+pub returns-then-versions_bounded : goal.returns-then-versions_bounded
 unfolding in_range
-returns-then-not-in_range c = out_of_range _ (breaks c.in_range.ensures c.if-not-in_range.true-raw)
+returns-then-versions_bounded c =
+    let m = c.args.m.now in
+    let two : c.if-in_range.value ≡ (in_range m && cards_sound m) = grind (arith, common_steps) in
+    c.cores_kept.ensures ∙ ap (λ (b : Bool). b && cores_sound m) (sym c.if-versions_bounded.true ∙ two) ∙ sound-parts m
 
-pub returns-then-not-versions_bounded : goal.returns-then-not-versions_bounded
+pub returns-else-versions_bounded : goal.returns-else-versions_bounded
 unfolding in_range
-returns-then-not-versions_bounded c =
-    unbounded _ (holds c.in_range.ensures c.if-not-in_range.false-raw)
-    (breaks c.versions_bounded.ensures c.if-not-versions_bounded.true-raw)
-
-pub returns : goal.returns
-unfolding in_range
-returns c =
-    by-cores _ (holds c.in_range.ensures c.if-not-in_range.false-raw)
-    (holds c.versions_bounded.ensures c.if-not-versions_bounded.false-raw) c.cores_kept.ensures
+returns-else-versions_bounded c =
+    let m = c.args.m.now in
+    let two : c.if-in_range.value ≡ (in_range m && cards_sound m) = search rules in
+    c.if-versions_bounded.false ∙ ap (λ (b : Bool). b && cores_sound m) (sym c.if-versions_bounded.false ∙ two) ∙ sound-parts m

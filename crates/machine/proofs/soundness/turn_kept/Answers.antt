@@ -7,54 +7,54 @@ use Rattle.machine.proofs.Tally.{tally-none, tally-counts, tally-skips}
 use Rattle.machine.specs.Sound.{smaller_at}
 use Rattle.machine.proofs.SoundLaws.{ahead-all, differs_from}
 use Rattle.machine.proofs.soundness.turn_kept.Goals as goal
-use Rattle.machine.proofs.soundness.turn_kept.Goals.{then-k+then-k-ticket, then-k+else-k-ticket+then-k-ticket-2+else-e-c, then-k+else-k-ticket+else-k-ticket-2, else-k}
+use Rattle.machine.proofs.soundness.turn_kept.Goals.{then-other+then-other-ticket, then-other+else-other-ticket+else-e-c, else-e-c-via-then-e-c+else-other-ticket-2, else-e-c-via-else-e-c, else-other}
 
 pub loop-e-init : goal.loop-e-init
-loop-e-init c = (omega arith, omega arith, omega (arith, tally-none (smaller_at c.args.m c.args.ticket)), below_none _)
+loop-e-init c = (omega arith, omega (arith, tally-none (smaller_at c.args.m.now c.args.ticket)), below_none _)
 
-pub returns-then-e-c : goal.returns-then-e-c
-returns-then-e-c c =
+pub returns-then-other-ticket-2 : goal.returns-then-other-ticket-2
+returns-then-other-ticket-2 c =
     let s = c.args in
-    rw (sym (each-fails s.c (differs_from s.m s.ticket) c.loop-e.e c.if-e-c.true
-    (rw (c.if-k.true, eq-eqb s.ticket (core_at s.m c.loop-e.e).ticket (sym c.if-k-ticket-2.true)))))
+    rw (sym (each-fails s.c (differs_from s.m.now s.ticket) c.loop-e.e c.if-e-c.true
+    (rw (c.if-other.true, eq-eqb s.ticket (core_at s.m.now c.loop-e.e).ticket (sym c.if-other-ticket-2.true)))))
 
 pub loop-e-preserved : goal.loop-e-preserved
 loop-e-preserved c =
     let s = c.args in
-    let f = smaller_at s.m s.ticket in
+    let f = smaller_at s.m.now s.ticket in
     let e = c.loop-e.e in
     let counts : f e ≡ true → tally e f + 1 ≡ tally (e + 1) f = tally-counts (tally e f) e f refl in
     let skips : f e ≡ false → tally e f ≡ tally (e + 1) f = tally-skips (tally e f) e f refl in (
-      omega arith,
-      elim c.if-k.branch [ then-k+then-k-ticket w ↦ omega arith | then-k+else-k-ticket+then-k-ticket-2+else-e-c w ↦ omega arith | then-k+else-k-ticket+else-k-ticket-2 w ↦ omega arith | else-k w ↦ omega arith ],
-      elim c.if-k.branch [
-        | then-k+then-k-ticket w ↦ omega (arith, counts (rw (w.if-k.true, lt-ltb _ _ w.if-k-ticket.true)))
-        | then-k+else-k-ticket+then-k-ticket-2+else-e-c w ↦ omega (arith, skips (rw (w.if-k.true, le-ltb _ _ w.if-k-ticket.false)))
-        | then-k+else-k-ticket+else-k-ticket-2 w ↦ omega (arith, skips (rw (w.if-k.true, le-ltb _ _ w.if-k-ticket.false)))
-        | else-k w ↦ omega (arith, skips (rw w.if-k.false))
+      elim c.if-other.branch [ then-other+then-other-ticket w ↦ omega arith | then-other+else-other-ticket+else-e-c w ↦ omega arith | else-other w ↦ omega arith ],
+      elim c.if-other.branch [
+        | then-other+then-other-ticket w ↦ omega (arith, counts (rw (w.if-other.true, lt-ltb _ _ w.if-other-ticket.true)))
+        | then-other+else-other-ticket+else-e-c w ↦ omega (arith, skips (rw (w.if-other.true, le-ltb _ _ w.if-other-ticket.false)))
+        | else-other w ↦ omega (arith, skips (rw w.if-other.false))
       ],
-      below_more _ _ c.loop-e.invariant.3 (λ h. elim c.if-k.branch [
-        | then-k+then-k-ticket w ↦ rw (w.if-k.true, ne_eqb s.ticket (core_at s.m e).ticket (λ p. omega (arith, w.if-k-ticket.true)))
-        | then-k+else-k-ticket+then-k-ticket-2+else-e-c w ↦ absurd (omega (arith, w.if-e-c.false))
-        | then-k+else-k-ticket+else-k-ticket-2 w ↦ rw (w.if-k.true, ne_eqb s.ticket (core_at s.m e).ticket (λ p. w.if-k-ticket-2.false (sym p)))
-        | else-k w ↦ rw w.if-k.false
+      below_more _ _ c.loop-e.invariant.2 (λ h. elim c.if-other.branch [
+        | then-other+then-other-ticket w ↦ rw (w.if-other.true, ne_eqb s.ticket (core_at s.m.now e).ticket (λ p. omega (arith, w.if-other-ticket.true)))
+        | then-other+else-other-ticket+else-e-c w ↦ elim w.else-e-c.branch [
+          | else-e-c-via-then-e-c+else-other-ticket-2 v ↦ rw (w.if-other.true, ne_eqb s.ticket (core_at s.m.now e).ticket (λ p. v.if-other-ticket-2.false (sym p)))
+          | else-e-c-via-else-e-c v ↦ absurd (omega (arith, v.if-e-c.false))
+        ]
+        | else-other w ↦ rw w.if-other.false
       ]),
     )
 
-pub returns-then-m-ticket : goal.returns-then-m-ticket
-returns-then-m-ticket c =
+pub returns-then-ticket-m : goal.returns-then-ticket-m
+returns-then-ticket-m c =
     let s = c.args in
     rw (
-      one_each s.c (differs_from s.m s.ticket) (λ x h. c.loop-e.invariant.3 x (omega (arith, c.requires, c.loop-e-test.false)) h),
-      le-ltb _ _ c.if-m-ticket.true,
+      one_each s.c (differs_from s.m.now s.ticket) (λ x h. c.loop-e.invariant.2 x (omega (arith, c.requires, c.loop-e-test.false)) h),
+      lt-ltb _ _ c.if-ticket-m.true,
     )
+    (ap (λ (x : ℕ). ltb x s.m.now.cores)
+    (ahead-all s.m.now s.ticket _ s.aborts _ c.loop-e-test.false c.loop-e.auto.e-end c.loop-e.invariant.1))
 
-pub returns : goal.returns
-returns c =
+pub returns-else-ticket-m : goal.returns-else-ticket-m
+returns-else-ticket-m c =
     let s = c.args in
     rw (
-      one_each s.c (differs_from s.m s.ticket) (λ x h. c.loop-e.invariant.3 x (omega (arith, c.requires, c.loop-e-test.false)) h),
-      lt-ltb _ _ c.if-m-ticket.false,
+      one_each s.c (differs_from s.m.now s.ticket) (λ x h. c.loop-e.invariant.2 x (omega (arith, c.requires, c.loop-e-test.false)) h),
+      le-ltb _ _ c.if-ticket-m.false,
     )
-    (ap (λ (x : ℕ). ltb x s.m.cores)
-    (ahead-all s.m s.ticket _ s.aborts _ c.loop-e-test.false c.loop-e.invariant.0 c.loop-e.invariant.2))

@@ -1,5 +1,5 @@
 -- `machine::soundness::turn_kept` meets its contract: the count is of the cores passed, and those before core c have other tickets.
-use Rattle.std.proofs.Common.{◌≡◌, ℕ, ◌+◌, ◌-◌, ◌<◌, ◌≤◌, true}
+use Rattle.std.proofs.Common.{◌≡◌, ℕ, ◌+◌, ◌<◌, ◌≤◌, true}
 use Rattle.machine.specs.Record.{tally}
 use Rattle.machine.specs.Sound.{smaller_at}
 use Rattle.machine.proofs.SoundLaws.{differs_from}
@@ -7,8 +7,5 @@ use Rattle.machine.proofs.soundness.turn_kept.Given as goal
 
 abbrev pub invariant-loop-e : goal.invariant-loop-e
 invariant-loop-e l =
-    (l.e ≤ 16) × (l.n ≤ l.aborts + l.e) × (l.n ≡ l.aborts + tally l.e (smaller_at l.m l.ticket))
+    (l.n ≤ l.aborts + l.e) × (l.n ≡ l.aborts + tally l.e (smaller_at l.m l.ticket))
     × ((x : ℕ) → x < l.e → x < l.c → differs_from l.m l.ticket x ≡ true)
-
-abbrev pub decreases-loop-e : goal.decreases-loop-e
-decreases-loop-e l = 16 - l.e

@@ -1,4 +1,4 @@
--- `one_core::inside::jobs::least_of` meets its contract: after the turn of place i, the best so far is the least of the first i + 1.
+-- `one_core::inside::jobs::least_of` meets its contract: before the turn of place i, the best so far is the least of the first i.
 use Rattle.std.specs.Prelude.{◌≡◌, ℕ, List}
 use mathlib.Core.Path.{sym, ◌∙◌}
 use native.Mathlib.Omega.{arith}
@@ -9,11 +9,10 @@ use Rattle.one_core.proofs.inside.jobs.least_of.Goals as goal
 use Rattle.one_core.proofs.inside.jobs.least_of.Goals.{then-jobs-i, else-jobs-i}
 
 pub loop-i-init : goal.loop-i-init
-loop-i-init c = (omega arith, omega arith, omega arith, sym (least-one c.args.jobs))
+loop-i-init c = (omega arith, omega arith, sym (least-one c.args.jobs.now))
 
 pub loop-i-preserved : goal.loop-i-preserved
 loop-i-preserved c = (
-  omega arith,
   elim c.if-jobs-i.branch [ then-jobs-i w ↦ omega arith | else-jobs-i w ↦ omega arith ],
   omega arith,
   elim c.if-jobs-i.branch [
@@ -23,15 +22,13 @@ loop-i-preserved c = (
 )
   where
     jobs : List Job
-    jobs = c.args.jobs
+    jobs = c.args.jobs.now
 
     i : ℕ
     i = c.loop-i.i
 
     best : c.loop-i.best ≡ least jobs i
-    best = c.loop-i.invariant.3
+    best = c.loop-i.invariant.2
 
 pub returns : goal.returns
-returns c =
-    least-found c.args.jobs c.args.n c.loop-i.i c.loop-i.best
-    c.loop-i-test.false c.loop-i.invariant.2 c.loop-i.invariant.0 c.loop-i.invariant.3
+returns c = least-found c.args.jobs.now c.args.n c.loop-i.i c.loop-i.best c.loop-i-test.false c.loop-i.invariant.1 (omega arith) c.loop-i.invariant.2
