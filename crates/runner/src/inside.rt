@@ -8,8 +8,8 @@ ghost use Rattle.runner.specs.Listing.{answer_line};
 use crate::setup::set_up;
 use crate::{Fed, KEPT_BYTES, Reading};
 use listing::put_line;
-use machine::inside::calls::access_in;
-use machine::inside::commit::commit_in;
+use machine::inside::calls::access;
+use machine::inside::commit::commit;
 use one_core::Answer;
 use request::{Asked, end_line};
 
@@ -95,19 +95,15 @@ fn line_ended(r: &mut Reading, committed: &mut [u32], pending: &mut [u32]) -> Op
             r.machine = made.machine;
             Some(made.answer)
         }
-        Asked::Commit(core) => Some(commit_in(
-            &mut r.machine,
-            core,
-            &mut committed[..cards],
-            &mut pending[..words],
-        )),
-        Asked::One(core, act) => Some(access_in(
-            &mut r.machine,
-            core,
-            act,
-            &committed[..cards],
-            &mut pending[..words],
-        )),
+        Asked::Commit(core) => {
+            let given = commit(&mut r.machine, core, &mut committed[..cards], &pending[..words]);
+            Some(Answer::of(given))
+        }
+        Asked::One(core, act) => {
+            let committed = &committed[..cards];
+            let given = access(&mut r.machine, core, act, committed, &mut pending[..words]);
+            Some(Answer::of(given))
+        }
     }
 }
 

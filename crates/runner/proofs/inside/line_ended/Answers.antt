@@ -21,11 +21,11 @@ by-rule w core e = e
 good : (c : After-end_line-asked) (b : Asked) → c.end_line-asked.result ≡ b → calls b ≡ true → WellFormedWorld (held c.args.r.now.machine c.args.committed.now c.args.pending.now)
 good c b same needs = good-if-some _ _ _ c.requires.0.holds (founded _ _ _ _ _ c.end_line-asked.ensures b same needs)
 
-pub commit_in-requires : goal.commit_in-requires
-commit_in-requires c = (good (goal.at.commit_in-requires c).After-end_line-asked _ c.in-Commit.is refl).world_sound
+pub commit-given-requires : goal.commit-given-requires
+commit-given-requires c = (good (goal.at.commit-given-requires c).After-end_line-asked _ c.in-Commit.is refl).world_sound
 
-pub access_in-requires : goal.access_in-requires
-access_in-requires c = (good (goal.at.access_in-requires c).After-end_line-asked _ c.in-One.is refl).world_sound
+pub access-given-requires : goal.access-given-requires
+access-given-requires c = (good (goal.at.access-given-requires c).After-end_line-asked _ c.in-One.is refl).world_sound
 
 pub returns-in-Order : goal.returns-in-Order
 returns-in-Order c =
@@ -48,12 +48,12 @@ pub returns-in-Commit : goal.returns-in-Commit
 returns-in-Commit c =
     let g = good (goal.at.returns-in-Commit c).After-end_line-asked _ c.in-Commit.is refl in
     let e = line-ended _ _ _ c.requires.0 c.requires.1 _ c.end_line-asked.ensures _ c.in-Commit.is refl _ c.requires.1 _ _ _ _
-    (call-done _ _ _ g c.requires.0.holds _ _ _ _ _ c.commit_in.auto.committed c.commit_in.auto.pending (by-rule _ _ c.commit_in.ensures)) in
+    (call-done _ _ _ g c.requires.0.holds _ _ _ _ _ c.commit-given.auto.committed c.commit-given.auto.pending (by-rule _ _ c.commit-given.ensures)) in
     record { fit = e.fit; listed = e.listed; kept = e.kept }
 
 pub returns-in-One : goal.returns-in-One
 returns-in-One c =
     let g = good (goal.at.returns-in-One c).After-end_line-asked _ c.in-One.is refl in
     let e = line-ended _ _ _ c.requires.0 c.requires.1 _ c.end_line-asked.ensures _ c.in-One.is refl _ c.requires.1 _ _ _ _
-    (access-done _ _ _ g c.requires.0.holds _ _ _ _ c.access_in.auto.pending c.access_in.ensures) in
+    (access-done _ _ _ g c.requires.0.holds _ _ _ _ c.access-given.auto.pending c.access-given.ensures) in
     record { fit = e.fit; listed = e.listed; kept = e.kept }
