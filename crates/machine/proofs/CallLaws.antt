@@ -1,5 +1,5 @@
 -- The conditions of refusals, and a call that is lent the tables: refused where a condition holds, accepted where none does.
-use Rattle.std.proofs.Common.{◌≡◌, ℕ, suc, ◌<◌, ◌≤◌, true, false, not, ◌&&◌, sym, ap, ap₂, le-ltb, lt-ltb, eq-eqb}
+use Rattle.std.proofs.Common.{◌≡◌, ℕ, suc, ◌<◌, ◌≤◌, true, false, not, ◌&&◌, sym, refl, ap, ap₂, le-ltb, lt-ltb, eq-eqb}
 use Rattle.one_core.specs.declared.Answer.TheVariants.{Refused}
 use Rattle.one_core.specs.declared.refusal.Refusal.{Refusal}
 use Rattle.one_core.specs.declared.refusal.Refusal.TheVariants.{WrongSize, Unsound, WrongTable, NoSuchCore, NoSuchObject, ListFull, NoJob, InProgress, NoneInProgress, TicketsSpent, Malformed}
@@ -53,3 +53,7 @@ refused-by w done InProgress = refl
 refused-by w done NoneInProgress = refl
 refused-by w done TicketsSpent = refl
 refused-by w done Malformed = refl
+
+pub refused-as : (w : World) (r why : Refusal) → r ≡ why
+    → ◌≡◌ {A = Result} (record { answer = Refused (number r); world = w }) (record { answer = Refused (number why); world = w })
+refused-as w r why e = ap (λ (x : Refusal). record { answer = Refused (number x); world = w }) e

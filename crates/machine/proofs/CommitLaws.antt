@@ -138,5 +138,15 @@ pub carried-out : (w : World) (c : ℕ) → c < length w.machine.core → let m 
 unfolding through
 carried-out w c l =
     let k : Core = core_at w.machine c in
-    rw (strikes-cleared k.writes c w.machine.core l)
-    (ap (λ (f : ℕ → ℕ → ℕ). changed k.writes f 0 w.committed) (λ i d v. part_at w.pending (c * w.machine.objects) d i))
+    let m : Machine = w.machine in
+    ap₂
+    (λ (cores : List Core) (committed : List ℕ).
+    record {
+      answer = Committed k.aborts;
+      world =
+          lent
+          (record { cores = m.cores; objects = m.objects; tickets = m.tickets; commits = m.commits + 1; give_ups = m.give_ups; core = cores; versions = changed k.writes (λ d v. v + 1) 0 m.versions })
+          committed w.pending;
+    })
+    (strikes-cleared k.writes c m.core l)
+    (λ i. changed k.writes (λ d v. part_at w.pending (c * m.objects) d i) 0 w.committed)

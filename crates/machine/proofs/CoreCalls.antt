@@ -13,7 +13,7 @@ use Rattle.one_core.specs.declared.refusal.Refusal.TheVariants.{NoSuchCore, NoSu
 use Rattle.one_core.specs.Parts.{no_core}
 use Rattle.one_core.specs.Refusal.{number}
 use Rattle.one_core.specs.Calls as Core
-use Rattle.one_core.specs.Calls.{first, object_of, Fits, taken, answered_on, unless_on, release_on, begin_on, read_on, write_on, give_up_on, finish_on}
+use Rattle.one_core.specs.Calls.{first, object_of, taken, answered_on, unless_on, release_on, begin_on, read_on, write_on, give_up_on, finish_on}
 use Rattle.one_core.proofs.CallLaws.{skips, hits, numbered, by-number}
 use Rattle.machine.specs.declared.Machine.{Machine}
 use Rattle.machine.specs.declared.Outcome.{Outcome}
@@ -28,9 +28,12 @@ use Rattle.machine.specs.OneCore.{call_of, found, found_core, sees, acted_at, wi
 use Rattle.machine.proofs.Facts.{stands, core-place, object-place, few_jobs, one-open}
 use Rattle.machine.proofs.Run.Places.{slot-inside}
 use Rattle.machine.proofs.Refusals.{refused-with}
-use Rattle.machine.proofs.CallLaws.{is_sound, a-core, no-core, an-object, no-object, tables-fit, refused-by}
+use Rattle.machine.proofs.CallLaws.{is_sound, a-core, no-core, an-object, no-object, tables-fit, refused-by, refused-as}
 
 -- ---- where a call finds its core and its card
+
+abbrev placed : ℕ → ℕ → Place
+placed c d = record { core = c; object = d }
 
 -- it is found in the machine
 pub core-found : (c cores x : ℕ) → Ok x ≡ found_core c cores → (x ≡ c) × (c < cores)
@@ -230,21 +233,17 @@ module _ (w : World) where
       ap (λ (x : Place). given w x (acted w a x)) p.0 ∙ found-given f a c p.1 p.2
 
   pub by-refusal : SoundWorld w → (a : Act) (c : ℕ) (r : Refusal) → Err r ≡ found c (object_of a) m.cores m.objects
-      → record { answer = Refused (number r); world = w } ≡ rule w (call_of a c)
+      → ◌≡◌ {A = Rule.Result} (record { answer = Refused (number r); world = w }) (rule w (call_of a c))
   by-refusal f a c r = go (ltb c m.cores) refl (ltb (object_of a) m.objects) refl
     where
-      refused : (why : Refusal) → Err r ≡ Err why → record { answer = Refused (number why); world = w } ≡ rule w (call_of a c)
-          → record { answer = Refused (number r); world = w } ≡ rule w (call_of a c)
-      refused why e p = let same : r ≡ why = cc in ap (λ (x : Refusal). record { answer = Refused (number x); world = w }) same ∙ p
-
       go : (p : Bool) → ltb c m.cores ≡ p → (q : Bool) → ltb (object_of a) m.objects ≡ q
-          → Err r ≡ cond p (cond q (Ok (record { core = c; object = object_of a })) (Err NoSuchObject)) (Err NoSuchCore)
-          → record { answer = Refused (number r); world = w } ≡ rule w (call_of a c)
+          → Err r ≡ cond p (cond q (Ok (placed c (object_of a))) (Err NoSuchObject)) (Err NoSuchCore)
+          → ◌≡◌ {A = Rule.Result} (record { answer = Refused (number r); world = w }) (rule w (call_of a c))
       go true h true l e = cc
-      go true h false l e = refused NoSuchObject e (no-card f a c (ltb-true _ _ h) (ltb-false _ _ l))
+      go true h false l e = refused-as w r NoSuchObject (cc) ∙ no-card f a c (ltb-true _ _ h) (ltb-false _ _ l)
       go false h q l e =
-          refused NoSuchCore e
-          (nowhere f (call_of a c) (subst (λ (x : ℕ). m.cores ≤ x) (sym (core-of a c)) (ltb-false _ _ h)))
+          refused-as w r NoSuchCore (cc)
+          ∙ nowhere f (call_of a c) (subst (λ (x : ℕ). m.cores ≤ x) (sym (core-of a c)) (ltb-false _ _ h))
 
 -- ---- the places found are places of the machine
 
@@ -264,13 +263,12 @@ module _ (m : Machine) (s : sound m ≡ true) (c d : ℕ) (at : Place) (e : Ok a
   pub to-slot : at.core * m.objects + at.object < m.cores * m.objects
   to-slot = slot-inside m.cores m.objects at.core at.object to-core to-object
 
-  -- what a call on it asks
-  pub to-fits : (seen : Seen) → seen.give_ups ≡ m.give_ups → m.tickets ≤ 4294967295 → Fits (core_at m at.core) seen
-  to-fits seen same fit =
-      record {
-        few_jobs = few_jobs m s at.core to-core;
-        one_more = λ on. omega (arith, same, one-open m s at.core to-core on);
-      }
+  -- the core has few jobs, and while a transaction is in progress fewer were given up than tickets given
+  pub to-few_jobs : (core_at m at.core).count ≤ 8
+  to-few_jobs = few_jobs m s at.core to-core
+
+  pub to-one_open : (core_at m at.core).active ≡ true → m.give_ups < m.tickets
+  to-one_open on = omega (arith, one-open m s at.core to-core on)
 
 pub few_words : (m : Machine) → sound m ≡ true → m.cores * m.objects ≤ 1024
 few_words m s = omega (arith, mul-le-mul (stands m s).few-cores (stands m s).few-objects)

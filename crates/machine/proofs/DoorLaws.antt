@@ -14,7 +14,7 @@ use Rattle.machine.specs.Rule.{World, lent, setup, rule, Call}
 use Rattle.machine.specs.Refusals.{at, refusals}
 use Rattle.machine.proofs.Refusals.{refused-with}
 use Rattle.one_core.proofs.CallLaws.{skips, hits, none-holds}
-use Rattle.machine.proofs.CallLaws.{is_sound}
+use Rattle.machine.proofs.CallLaws.{is_sound, refused-as}
 use Rattle.machine.proofs.CallLaws.{refused-lent, accepted-lent}
 
 -- ---- 2: an unsound record
@@ -61,15 +61,11 @@ pub tested-refused : (w : World) (call : Call) (r : Refusal) → at call false f
 unfolding unless_on
 tested-refused w call r lends = go (sound w.machine) refl (both_fit w) refl
   where
-    refused : (why : Refusal) → Err r ≡ Err why → record { answer = Refused (number why); world = w } ≡ rule w call
-        → record { answer = Refused (number r); world = w } ≡ rule w call
-    refused why e p = let same : r ≡ why = cc in ap (λ (x : Refusal). record { answer = Refused (number x); world = w }) same ∙ p
-
     go : (s : Bool) → sound w.machine ≡ s → (t : Bool) → both_fit w ≡ t
         → Err r ≡ cond (not s) (Err Unsound) (cond (not t) (Err WrongTable) (Ok tt)) → record { answer = Refused (number r); world = w } ≡ rule w call
     go true s true t e = cc
-    go true s false t e = refused WrongTable e (misfit-refused w call lends s t)
-    go false s t u e = refused Unsound e (unsound-refused w call s)
+    go true s false t e = refused-as w r WrongTable (cc) ∙ misfit-refused w call lends s t
+    go false s t u e = refused-as w r Unsound (cc) ∙ unsound-refused w call s
 
 -- ---- setup
 

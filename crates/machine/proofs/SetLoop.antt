@@ -1,10 +1,10 @@
 -- A loop that goes over the objects of a set by taking one out at each turn: the entries of the objects that are left are as they
 -- were, every other is what the set makes of it.
-use Rattle.std.proofs.Common.{◌≡◌, ℕ, ◌^◌, ◌<◌, Bool, true, false, not, ◌&&◌, eqb, List, length, get_or, set, sym, refl, ap, ◌∙◌, arith, length-set, get_or-set_other, get_or-set_same, ext_get_or, ne_eqb}
+use Rattle.std.proofs.Common.{◌≡◌, ℕ, ◌^◌, ◌<◌, Bool, true, false, not, ◌&&◌, eqb, List, None, Some, length, get_or, set, sym, refl, ap, ◌∙◌, arith, length-set, get_or-set_other, get_or-set_same, ext_get_or, ne_eqb}
 use mathlib.Core.Bool.{and-true}
 use borrow.Author.Tests.{eqb-false, not-true}
-use Rattle.objset.specs.Objset.{has, is_empty, removed}
-use Rattle.objset.proofs.Laws.{both_left, both_right, has-removed, removed-fits, empty-has}
+use Rattle.objset.specs.Objset.{has, first_object, removed}
+use Rattle.objset.proofs.Laws.{both_left, both_right, has-removed, removed-fits, empty-has, member-bound, first_member, no_first}
 use Rattle.machine.specs.Rule.{changed}
 use Rattle.machine.proofs.Entries.{here-or-else, changed-at, changed-long}
 
@@ -22,6 +22,17 @@ left-next ws rest d l =
       fits = removed-fits rest d;
       within = λ e p. l.within e (both_left (has rest e) (not (eqb e d)) (sym (has-removed rest d e l.fits) ∙ p));
     }
+
+-- the first of what is left is in the set
+pub record Next (ws rest d : ℕ) : Type 0 where
+  pub waits : has rest d ≡ true
+  pub written : has ws d ≡ true
+  pub place : d < 64
+
+pub next-left : (ws rest d : ℕ) → Left ws rest → Some d ≡ first_object rest → Next ws rest d
+next-left ws rest d l e =
+    let waits = first_member rest d (sym e) in
+    record { waits = waits; written = l.within d waits; place = member-bound rest d l.fits waits }
 
 module _ (ws : ℕ) (f : ℕ → ℕ → ℕ) (old : List ℕ) where
   -- the list `now` while `rest` is left
@@ -69,7 +80,8 @@ module _ (ws : ℕ) (f : ℕ → ℕ → ℕ) (old : List ℕ) where
           get_or-set_other now d j v 0 other
           ∙ at.done j k (sym (and-true (has rest j)) ∙ ap (λ (b : Bool). has rest j && not b) (sym (ne_eqb j d other)) ∙ sym (has-removed rest d j left.fits) ∙ q)
 
-  pub turned-all : (rest : ℕ) (now : List ℕ) → rest < 2 ^ 64 → is_empty rest ≡ true → Turned rest now → now ≡ changed ws f 0 old
-  turned-all rest now h e at =
+  pub turned-all : (rest : ℕ) (now : List ℕ) → rest < 2 ^ 64 → first_object rest ≡ None → Turned rest now → now ≡ changed ws f 0 old
+  turned-all rest now h none at =
+      let e = no_first rest h none in
       ext_get_or 0 now (changed ws f 0 old) (at.same_length ∙ sym (changed-long ws f 0 old))
       (λ d l. at.done d (omega (arith, at.same_length)) (empty-has rest d h e))

@@ -1,13 +1,12 @@
 // The calls that concern one core: the core and the card are found, the call is made on the core, and what it leaves is stored. A refusal
 // leaves all as it was. `alone` asks for a sound record, `access` for tables of the right lengths too.
-ghost use Rattle.std.specs.Prelude.{◌≡◌, ◌<◌, true};
+ghost use Rattle.std.specs.Prelude.{◌≡◌, ◌<◌, ◌≤◌, true};
 ghost use Rattle.machine.specs.Sound.{sound};
 ghost use Rattle.machine.specs.Inside.{SoundWorld};
 ghost use Rattle.machine.specs.Rule.{lent, left, rule};
-ghost use Rattle.machine.specs.OneCore.{found, found_core, call_of, zeroed, handed, sees, acted_at, with_acted};
+ghost use Rattle.machine.specs.OneCore.{found, found_core, call_of, zeroed, handed, acted_at, with_acted};
 ghost use Rattle.machine.specs.Record.{core_at};
-ghost use Rattle.one_core.specs.Calls.{Fits};
-ghost use Rattle.one_core.specs.Parts.{most_cores};
+ghost use Rattle.one_core.specs.Parts.{most_cores, most_jobs};
 ghost use Rattle.one_core.specs.Refusal.{answer_of};
 ghost use Rattle.objset.specs.Objset.{most_objects};
 
@@ -59,7 +58,8 @@ fn act_at(
 ) -> Result<Answer, Refusal>
     requires there { at.core < most_cores }
     requires card { at.object < most_objects }
-    requires fits { Fits (core_at m.old at.core) (sees m.old at.object committed pending.old) }
+    requires few_jobs { (core_at m.old at.core).count ≤ most_jobs }
+    requires one_open { (core_at m.old at.core).active ≡ true → m.old.give_ups < m.old.tickets }
     ensures left { m.new ≡ with_acted m.old at.core (acted_at m.old at act committed pending.old) }
     ensures word { pending.new ≡ (acted_at m.old at act committed pending.old).pending }
     ensures answer { answer_of result ≡ (acted_at m.old at act committed pending.old).answer }
