@@ -46,12 +46,12 @@ misfit-refused w call lends s t =
 
 -- ---- both, as they are tested
 
-pub tested-fine : (w : World) → Ok tt ≡ tested w → SoundWorld w
+pub tested-fine : (w : World) → Ok (tt {0}) ≡ tested w → SoundWorld w
 unfolding unless_on
 tested-fine w = go (sound w.machine) refl (both_fit w) refl
   where
     go : (s : Bool) → sound w.machine ≡ s → (t : Bool) → both_fit w ≡ t
-        → Ok tt ≡ cond (not s) (Err Unsound) (cond (not t) (Err WrongTable) (Ok tt)) → SoundWorld w
+        → Ok (tt {0}) ≡ cond (not s) (Err Unsound) (cond (not t) (Err WrongTable) (Ok (tt {0}))) → SoundWorld w
     go true s true t e = fine_of w s t
     go true s false t e = cc
     go false s t u e = cc
@@ -62,7 +62,7 @@ unfolding unless_on
 tested-refused w call r lends = go (sound w.machine) refl (both_fit w) refl
   where
     go : (s : Bool) → sound w.machine ≡ s → (t : Bool) → both_fit w ≡ t
-        → Err r ≡ cond (not s) (Err Unsound) (cond (not t) (Err WrongTable) (Ok tt)) → record { answer = Refused (number r); world = w } ≡ rule w call
+        → Err r ≡ cond (not s) (Err Unsound) (cond (not t) (Err WrongTable) (Ok (tt {0}))) → record { answer = Refused (number r); world = w } ≡ rule w call
     go true s true t e = cc
     go true s false t e = refused-as w r WrongTable (cc) ∙ misfit-refused w call lends s t
     go false s t u e = refused-as w r Unsound (cc) ∙ unsound-refused w call s

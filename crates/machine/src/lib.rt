@@ -223,6 +223,7 @@ impl Machine {
     }
 
     // Whether the record is sound and the tables are of its lengths: refusals 2 and 3.
+    #[tactic(auto, unfolding(one_core::specs::Calls::unless_on))]
     fn tested(&self, committed: &[u32], pending: &[u32]) -> Result<(), Refusal>
         ensures { result ≡ tested (lent self.now committed.now pending.now) }
     {

@@ -19,8 +19,8 @@ returns-in_err-at c =
     let w = lent m c.args.committed.now c.args.pending.now in
     let p = err_from_is_err_and c.from_residual.result c.from_residual.ensures.1 in
     rw p.1 (
-      refused-as w _ _ p.2
-      ∙ by-refusal w c.requires c.args.act c.args.core _ (c.in_err-at.ensures ∙ ap (λ (d : ℕ). found c.args.core d m.cores m.objects) c.object.ensures)
+    refused-as w _ _ p.2
+    ∙ by-refusal w c.requires c.args.act c.args.core _ (c.in_err-at.ensures ∙ ap (λ (d : ℕ). found c.args.core d m.cores m.objects) c.object.ensures)
     )
 
 pub bounds-pending-slot : goal.bounds-pending-slot

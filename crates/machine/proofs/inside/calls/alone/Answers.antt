@@ -22,9 +22,9 @@ returns-in_err-at c =
     let m = c.args.m.now in
     let p = err_from_is_err_and c.from_residual.result c.from_residual.ensures.1 in
     rw p.1 (
-      ap handed
-      (refused-as (zeroed m) _ _ p.2
-      ∙ by-refusal (zeroed m) (zeroed-fine m c.requires) c.args.act c.args.core _ (c.in_err-at.ensures ∙ ap (λ (d : ℕ). found c.args.core d m.cores m.objects) c.object.ensures))
+    ap handed
+    (refused-as (zeroed m) _ _ p.2
+    ∙ by-refusal (zeroed m) (zeroed-fine m c.requires) c.args.act c.args.core _ (c.in_err-at.ensures ∙ ap (λ (d : ℕ). found c.args.core d m.cores m.objects) c.object.ensures))
     )
 
 pub act_at-requires-clause-there : goal.act_at-requires-clause-there
@@ -52,8 +52,8 @@ returns c =
     let left = c.act_at.ensures in
     let e = place (goal.at.returns c).In_ok-at in
     rw (left.left, left.answer) (
-      ap₂ (λ (x y : ℕ). made m at c.args.act x y)
-      (sym (get_or-replicate m.objects at.object 0 0 (to-object m c.requires _ _ at e)))
-      (sym (get_or-replicate (m.cores * m.objects) _ 0 0 (to-slot m c.requires _ _ at e)))
-      ∙ ap handed (by-core (zeroed m) (zeroed-fine m c.requires) c.args.act c.args.core at e)
+    ap₂ (λ (x y : ℕ). made m at c.args.act x y)
+    (sym (get_or-replicate m.objects at.object 0 0 (to-object m c.requires _ _ at e)))
+    (sym (get_or-replicate (m.cores * m.objects) _ 0 0 (to-slot m c.requires _ _ at e)))
+    ∙ ap handed (by-core (zeroed m) (zeroed-fine m c.requires) c.args.act c.args.core at e)
     )

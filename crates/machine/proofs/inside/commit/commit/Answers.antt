@@ -48,8 +48,8 @@ returns-then-k c =
     let w = lent c.args.m.now c.args.committed.now c.args.pending.now in
     let f = c.requires in
     rw c.tell.ensures (
-      commit-told w c.in_ok-c.c f.is_sound f.committed_long f.pending_long (here (goal.at.returns-then-k c).In_ok-c) c.if-not-k.false c.if-k.true
-      ∙ ap (commit w) (same (goal.at.returns-then-k c).In_ok-c)
+    commit-told w c.in_ok-c.c f.is_sound f.committed_long f.pending_long (here (goal.at.returns-then-k c).In_ok-c) c.if-not-k.false c.if-k.true
+    ∙ ap (commit w) (same (goal.at.returns-then-k c).In_ok-c)
     )
 
 pub returns-in-Some : goal.returns-in-Some
@@ -99,7 +99,7 @@ returns c =
     let long : length m.core ≡ 16 = search rules in
     let place = there (goal.at.returns c).In_ok-c in
     rw (c.strike.ensures, c.end.ensures, stored.values, stored.raised) (
-      carried-out w c.in_ok-c.c (omega (arith, long, place))
-      ∙ commit-through w c.in_ok-c.c f.is_sound f.committed_long f.pending_long (here (goal.at.returns c).In_ok-c) c.if-not-k.false c.if-k.false (waits-for-nobody m c.in_ok-c.c c.in_default.ensures)
-      ∙ ap (commit w) (same (goal.at.returns c).In_ok-c)
+    carried-out w c.in_ok-c.c (omega (arith, long, place))
+    ∙ commit-through w c.in_ok-c.c f.is_sound f.committed_long f.pending_long (here (goal.at.returns c).In_ok-c) c.if-not-k.false c.if-k.false (waits-for-nobody m c.in_ok-c.c c.in_default.ensures)
+    ∙ ap (commit w) (same (goal.at.returns c).In_ok-c)
     )
