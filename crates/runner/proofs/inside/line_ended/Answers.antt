@@ -7,7 +7,7 @@ use Rattle.runner.specs.Kept.{held}
 use Rattle.runner.proofs.Asking.{calls, founded}
 use Rattle.runner.proofs.Acts.{none_done}
 use Rattle.runner.proofs.Sizes.{good-if-some}
-use Rattle.runner.proofs.ByCall.{setup-done, call-done, access-done}
+use Rattle.runner.proofs.ByCall.{setup-done, access-done, commit-done}
 use Rattle.runner.proofs.Endings.{order-ended, line-ended}
 use Rattle.runner.proofs.inside.line_ended.Goals as goal
 use Rattle.runner.proofs.inside.line_ended.Goals.{After-end_line-asked}
@@ -48,12 +48,12 @@ pub returns-in-Commit : goal.returns-in-Commit
 returns-in-Commit c =
     let g = good (goal.at.returns-in-Commit c).After-end_line-asked _ c.in-Commit.is refl in
     let e = line-ended _ _ _ c.requires.0 c.requires.1 _ c.end_line-asked.ensures _ c.in-Commit.is refl _ c.requires.1 _ _ _ _
-    (call-done _ _ _ g c.requires.0.holds _ _ _ _ _ c.commit-given.auto.committed c.commit-given.auto.pending (by-rule _ _ c.commit-given.ensures)) in
+    (commit-done _ _ _ g c.requires.0.holds _ _ _ _ c.of.ensures _ c.commit-given.auto.committed (by-rule _ _ c.commit-given.ensures)) in
     record { fit = e.fit; listed = e.listed; kept = e.kept }
 
 pub returns-in-One : goal.returns-in-One
 returns-in-One c =
     let g = good (goal.at.returns-in-One c).After-end_line-asked _ c.in-One.is refl in
     let e = line-ended _ _ _ c.requires.0 c.requires.1 _ c.end_line-asked.ensures _ c.in-One.is refl _ c.requires.1 _ _ _ _
-    (access-done _ _ _ g c.requires.0.holds _ _ _ _ c.access-given.auto.pending c.access-given.ensures) in
+    (access-done _ _ _ g c.requires.0.holds _ _ _ _ c.of-in-One.ensures _ c.access-given.auto.pending c.access-given.ensures) in
     record { fit = e.fit; listed = e.listed; kept = e.kept }
