@@ -23,13 +23,6 @@ without_last_empty (p ∷ q ∷ ps) = p ∷ without_last_empty (q ∷ ps)
 unfoldable pub lines : List ℕ → List (List ℕ)
 lines file = without_last_empty (pieces (byte "\n") file)
 
--- whether two lists of bytes are the same
-unfoldable pub same : List ℕ → List ℕ → Bool
-same [] [] = true
-same [] (y ∷ ys) = false
-same (x ∷ xs) [] = false
-same (x ∷ xs) (y ∷ ys) = eqb x y && same xs ys
-
 -- whether a byte is nowhere in a list
 unfoldable pub free : ℕ → List ℕ → Bool
 free at [] = true
