@@ -50,7 +50,7 @@ pub how-many-pieces : (at : ℕ) (bs : List ℕ) → count_by (λ b. eqb b at) b
 unfolding pieces
 how-many-pieces at bs =
     let counted = is_count_by (λ bs. length (pieces at bs) - 1) (λ b. eqb b at) refl
-        (λ b bs. one_counted (eqb b at) b (pieces at bs) (omega (arith, ap length (some-piece at bs)))) bs in
+    (λ b bs. one_counted (eqb b at) b (pieces at bs) (omega (arith, ap length (some-piece at bs)))) bs in
     omega (arith, counted, ap length (some-piece at bs))
 
 -- bytes that are not cut stand in front of the first piece

@@ -1,5 +1,5 @@
 -- A list of bytes cut at a byte, and the lines of a file.
-use Rattle.std.specs.Prelude.{ℕ, Bool, true, false, cond, not, ◌&&◌, List, [], ◌∷◌, eqb}
+use Rattle.std.specs.Prelude.{ℕ, Bool, true, cond, not, ◌&&◌, List, [], ◌∷◌, eqb}
 use Rattle.decimal.specs.Bytes.{byte}
 
 -- a byte in front of the first piece

@@ -5,7 +5,7 @@ use Prim.Native.Nat.{ℕ, ◌-◌, ◌≤◌}
 use native.Mathlib.Numerals.{add-one}
 use native.Mathlib.Omega.{arith}
 use lib.ListN.{length, get_or}
-use borrow.Author.Tests.{eqb-false, ltb-false}
+use borrow.Author.Tests.{ltb-false}
 use Rattle.table.specs.Cut.{most_fields, filled, beginnings, marked}
 use Rattle.table.proofs.Begins.{begin}
 use Rattle.table.proofs.Cuts.{no_fields, none-asked, cut-over, cut-nothing}

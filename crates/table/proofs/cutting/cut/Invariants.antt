@@ -1,6 +1,5 @@
 -- `table::cutting::cut` meets its contract. The loop's invariant: i fields' beginnings stand in their places. After it the last field begins within the line and ends with it, or the line has more or fewer.
 use mathlib.Core.Path.{◌≡◌}
-use Prim.Native.Nat.{◌-◌, ◌≤◌}
 use Rattle.table.specs.Cut.{filled, beginnings}
 use Rattle.table.proofs.cutting.cut.Given as goal
 

@@ -1,7 +1,6 @@
 -- `table::heading::how_many` meets its contract: there is one field more than there are spaces.
 use Rattle.std.proofs.Common.{rules}
-use mathlib.Core.Path.{◌≡◌, ap, ◌∙◌}
-use Prim.Native.Nat.{◌+◌}
+use mathlib.Core.Path.{◌≡◌}
 use lib.Dec.{eqb}
 use Rattle.std.specs.List.{count_by}
 use Rattle.table.proofs.Laws.{how-many-pieces}

@@ -1,11 +1,8 @@
 -- `table::heading::order` meets its contract. The loop's invariant: the first i names all stand, and their places are the first i.
-use mathlib.Core.Path.{◌≡◌, refl, sym, ap, ◌∙◌}
-use mathlib.Core.List.{List, []}
-use Prim.Native.Nat.{ℕ, ◌<◌}
+use mathlib.Core.Path.{refl, sym, ◌∙◌}
 use native.Mathlib.Omega.{arith}
-use lib.ListN.{get_or, length}
-use Rattle.table.specs.Fields.{place, places_of, all_stand}
-use Rattle.table.specs.Cut.{most_fields, filled, held_places, fields_by, Fielded}
+use Rattle.table.specs.Fields.{places_of, all_stand}
+use Rattle.table.specs.Cut.{filled}
 use Rattle.table.proofs.Cuts.{fielded, room}
 use Rattle.table.proofs.Ordering.{names-uncut, line-uncut, name-placed, name-stands, name-missing, names-placed}
 use Rattle.table.proofs.heading.order.Goals as goal
