@@ -4,17 +4,16 @@ use mathlib.Core.Bool.{Bool, true, false, ◌&&◌}
 use mathlib.Core.List.{List, [], ◌∷◌, ◌++◌, map}
 use Prim.Native.Nat.{ℕ}
 use lib.ListN.{get_or, replicate}
+use Rattle.std.specs.Prelude.{Option, Some, None}
+use Rattle.std.specs.Str.{bytes_eq}
 use Rattle.decimal.specs.Bytes.{byte, ascii}
 use Rattle.decimal.specs.Spelling.{spelling, spelling_in}
 use Rattle.decimal.specs.Reading.{all_digits, no_leading_zero, value_after, is_number, read_as_number}
-use Rattle.script.specs.declared.Call.TheVariants as Call
-use Rattle.script.specs.declared.Line.{Line}
-use Rattle.script.specs.declared.Line.TheVariants.{Spells, Malformed}
+use Rattle.script.specs.declared.Call.{Call}
 use Rattle.script.specs.declared.Columns.{Columns}
-use Rattle.script.specs.declared.Names.{Names}
-use Rattle.table.specs.Pieces.{onto, pieces, same}
+use Rattle.table.specs.Pieces.{onto, pieces}
 use Rattle.table.specs.Fields.{fields_of, place, places_of, all_stand, columns, columns_of}
-use Rattle.script.specs.Line.{call_name, core_name, card_name, value_name, four_names, fields, ordered, names, verb, numbered, field, with_number, with_dash, spelt, meant, spells}
+use Rattle.script.specs.Line.{call_name, core_name, card_name, value_name, four_names, fields, ordered, names, verb, field, with_number, with_dash, spelt, whole, meant, spells}
 
 -- ---- words, and a line of them with one space between
 
@@ -55,39 +54,39 @@ joined (w ∷ v ∷ ws) = w ++ ascii " " ++ joined (v ∷ ws)
 abbrev in_order : Columns
 in_order = record { call = 0; core = 1; card = 2; value = 3 }
 
-abbrev table : List (List (List ℕ) × Line)
+abbrev table : List (List (List ℕ) × Option Call)
 table =
-    (setup ∷ spelling 2 ∷ spelling 64 ∷ dash ∷ [], Spells (Call.Setup 2 64))
-    ∷ (release ∷ spelling 0 ∷ spelling 65535 ∷ spelling 100 ∷ [], Spells (Call.Release 0 65535 100))
-    ∷ (begin ∷ spelling 1 ∷ dash ∷ dash ∷ [], Spells (Call.Begin 1))
-    ∷ (read ∷ spelling 1 ∷ spelling 0 ∷ dash ∷ [], Spells (Call.Read 1 0))
-    ∷ (write ∷ spelling 0 ∷ spelling 0 ∷ spelling 4294967295 ∷ [], Spells (Call.Write 0 0 4294967295))
-    ∷ (commit ∷ spelling 1 ∷ dash ∷ dash ∷ [], Spells (Call.Commit 1))
-    ∷ (giveup ∷ spelling 4294967295 ∷ dash ∷ dash ∷ [], Spells (Call.GiveUp 4294967295))
-    ∷ (finish ∷ spelling 10 ∷ dash ∷ dash ∷ [], Spells (Call.Finish 10))
+    (setup ∷ spelling 2 ∷ spelling 64 ∷ dash ∷ [], Some (Call.Setup 2 64))
+    ∷ (release ∷ spelling 0 ∷ spelling 65535 ∷ spelling 100 ∷ [], Some (Call.Release 0 65535 100))
+    ∷ (begin ∷ spelling 1 ∷ dash ∷ dash ∷ [], Some (Call.Begin 1))
+    ∷ (read ∷ spelling 1 ∷ spelling 0 ∷ dash ∷ [], Some (Call.Read 1 0))
+    ∷ (write ∷ spelling 0 ∷ spelling 0 ∷ spelling 4294967295 ∷ [], Some (Call.Write 0 0 4294967295))
+    ∷ (commit ∷ spelling 1 ∷ dash ∷ dash ∷ [], Some (Call.Commit 1))
+    ∷ (giveup ∷ spelling 4294967295 ∷ dash ∷ dash ∷ [], Some (Call.GiveUp 4294967295))
+    ∷ (finish ∷ spelling 10 ∷ dash ∷ dash ∷ [], Some (Call.Finish 10))
     -- an empty line, no call's name, a name cut short, a carriage return at the end
-    ∷ ([], Malformed)
-    ∷ ([] ∷ spelling 1 ∷ dash ∷ dash ∷ [], Malformed)
-    ∷ (ascii "beg" ∷ spelling 1 ∷ dash ∷ dash ∷ [], Malformed)
-    ∷ (begin ∷ spelling 1 ∷ dash ∷ ascii "-\r" ∷ [], Malformed)
+    ∷ ([], None)
+    ∷ ([] ∷ spelling 1 ∷ dash ∷ dash ∷ [], None)
+    ∷ (ascii "beg" ∷ spelling 1 ∷ dash ∷ dash ∷ [], None)
+    ∷ (begin ∷ spelling 1 ∷ dash ∷ ascii "-\r" ∷ [], None)
     -- three fields, five, two spaces in a row, a space at the end, 65 bytes
-    ∷ (begin ∷ spelling 1 ∷ dash ∷ [], Malformed)
-    ∷ (begin ∷ spelling 1 ∷ dash ∷ dash ∷ dash ∷ [], Malformed)
-    ∷ (begin ∷ [] ∷ spelling 1 ∷ dash ∷ dash ∷ [], Malformed)
-    ∷ (begin ∷ spelling 1 ∷ dash ∷ dash ∷ [] ∷ [], Malformed)
-    ∷ (begin ∷ spelling 1 ∷ dash ∷ replicate 55 (byte "-") ∷ [], Malformed)
+    ∷ (begin ∷ spelling 1 ∷ dash ∷ [], None)
+    ∷ (begin ∷ spelling 1 ∷ dash ∷ dash ∷ dash ∷ [], None)
+    ∷ (begin ∷ [] ∷ spelling 1 ∷ dash ∷ dash ∷ [], None)
+    ∷ (begin ∷ spelling 1 ∷ dash ∷ dash ∷ [] ∷ [], None)
+    ∷ (begin ∷ spelling 1 ∷ dash ∷ replicate 55 (byte "-") ∷ [], None)
     -- a number where `-` is due, `-` where a number is, a leading zero, a job above 65,535, a number above 4,294,967,295
-    ∷ (begin ∷ spelling 1 ∷ spelling 0 ∷ dash ∷ [], Malformed)
-    ∷ (read ∷ spelling 1 ∷ spelling 0 ∷ spelling 0 ∷ [], Malformed)
-    ∷ (write ∷ spelling 1 ∷ spelling 0 ∷ dash ∷ [], Malformed)
-    ∷ (finish ∷ dash ∷ dash ∷ dash ∷ [], Malformed)
-    ∷ (write ∷ spelling 1 ∷ spelling 0 ∷ ascii "01" ∷ [], Malformed)
-    ∷ (release ∷ spelling 0 ∷ spelling 65536 ∷ spelling 100 ∷ [], Malformed)
-    ∷ (write ∷ spelling 0 ∷ spelling 0 ∷ spelling 4294967296 ∷ [], Malformed)
+    ∷ (begin ∷ spelling 1 ∷ spelling 0 ∷ dash ∷ [], None)
+    ∷ (read ∷ spelling 1 ∷ spelling 0 ∷ spelling 0 ∷ [], None)
+    ∷ (write ∷ spelling 1 ∷ spelling 0 ∷ dash ∷ [], None)
+    ∷ (finish ∷ dash ∷ dash ∷ dash ∷ [], None)
+    ∷ (write ∷ spelling 1 ∷ spelling 0 ∷ ascii "01" ∷ [], None)
+    ∷ (release ∷ spelling 0 ∷ spelling 65536 ∷ spelling 100 ∷ [], None)
+    ∷ (write ∷ spelling 0 ∷ spelling 0 ∷ spelling 4294967296 ∷ [], None)
     ∷ []
 
 each_line : map (λ row. spells in_order (joined row.0)) table ≡ map (λ row. row.1) table
-unfolding spells meant fields fields_of pieces onto verb same field numbered with_number with_dash spelt read_as_number is_number all_digits no_leading_zero value_after spelling spelling_in
+unfolding spells meant fields fields_of pieces onto verb field with_number with_dash spelt whole read_as_number is_number all_digits no_leading_zero value_after spelling spelling_in
 each_line = refl
 
 -- ---- lines of names: all 24 orders of the four, then lines that give none
@@ -106,14 +105,14 @@ orders [] = [] ∷ []
 orders (w ∷ ws) = each w (orders ws)
 
 -- whether the places are those of the four names in this order
-abbrev placed : List (List ℕ) → Names → Bool
-placed o (Names.Order c) =
-    same (get_or o c.call []) call_name && same (get_or o c.core []) core_name && same (get_or o c.card []) card_name
-    && same (get_or o c.value []) value_name
-placed o Names.Malformed = false
+abbrev placed : List (List ℕ) → Option Columns → Bool
+placed o (Some c) =
+    bytes_eq (get_or o c.call []) call_name && bytes_eq (get_or o c.core []) core_name && bytes_eq (get_or o c.card []) card_name
+    && bytes_eq (get_or o c.value []) value_name
+placed o None = false
 
 each-order : map (λ o. placed o (names (joined o))) (orders four_names) ≡ replicate 24 true
-unfolding names ordered columns_of columns all_stand places_of fields_of pieces onto place same
+unfolding names ordered columns_of columns all_stand places_of fields_of pieces onto place
 each-order = refl
 
 -- no byte, one name missing, one twice, five, two spaces in a row, a space at the end
@@ -127,6 +126,6 @@ bad =
     ∷ (call_name ∷ core_name ∷ card_name ∷ value_name ∷ [] ∷ [])
     ∷ []
 
-bad-names : map (λ ws. names (joined ws)) bad ≡ replicate 6 Names.Malformed
-unfolding names ordered columns_of columns all_stand places_of fields_of pieces onto place same
+bad-names : map (λ ws. names (joined ws)) bad ≡ replicate 6 None
+unfolding names ordered columns_of columns all_stand places_of fields_of pieces onto place
 bad-names = refl

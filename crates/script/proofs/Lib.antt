@@ -2,5 +2,5 @@
 pub mod Laws
 mod Orders
 mod Verbs
-mod Takes
+mod Parts
 mod Examples

@@ -1,7 +1,7 @@
 // Which call a line of a script spells (document 01, 'Script and listing'). A script's first line says the order of the fields;
 // each other line is a call or malformed.
 //
-// `order` reads the first line, and `parse` each other line, both over `table`. Their contracts cite `specs/`; `proofs/Laws.antt` has what
+// `order` reads the first line, and `parse` each other line, both over `table`; of a malformed line they make nothing. Their contracts cite `specs/`; `proofs/Laws.antt` has what
 // a caller knows of what stands there. The public functions require nothing.
 #![tactic(auto)]
 
@@ -31,13 +31,6 @@ pub enum Call {
     Finish(u32),
 }
 
-// The parsed line: the call that it spells, or that it spells none.
-#[derive(Clone, Copy)]
-pub enum Line {
-    Spells(Call),
-    Malformed,
-}
-
 // Where each field stands in a line, counted from 0.
 #[derive(Clone, Copy)]
 pub struct Columns {
@@ -45,13 +38,6 @@ pub struct Columns {
     pub core: usize,
     pub card: usize,
     pub value: usize,
-}
-
-// The parsed line of names: the order of the fields, or that it is bad.
-#[derive(Clone, Copy)]
-pub enum Names {
-    Order(Columns),
-    Malformed,
 }
 
 // What the field of the call's name says.
@@ -65,7 +51,6 @@ enum Verb {
     Commit,
     GiveUp,
     Finish,
-    Unknown,
 }
 
 // What stands in a field of a number.
@@ -74,5 +59,4 @@ enum Field {
     // `-`
     Unused,
     Number(u32),
-    Malformed,
 }

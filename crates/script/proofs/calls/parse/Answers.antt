@@ -1,44 +1,50 @@
 -- `script::calls::parse` meets its contract: each part is the field that the definition takes, and `spelt` says what they spell.
-use mathlib.Core.Path.{◌≡◌, ◌∙◌}
-use native.Mathlib.Omega.{arith}
-use Rattle.table.specs.Cut.{Fielded, fields_by}
-use Rattle.table.proofs.Cuts.{fielded, cut-fields}
-use Rattle.script.specs.Line.{longest, fields, meant, spells}
+use mathlib.Core.Path.{refl, sym, ◌∙◌}
+use Rattle.table.proofs.Cuts.{fielded}
+use Rattle.script.specs.Line.{whole}
+use Rattle.script.proofs.Parts.{no_fields-spelled, parts-spelled}
 use Rattle.script.proofs.calls.parse.Goals as goal
-use Rattle.script.proofs.calls.parse.Goals.{After-cut-f}
 
--- the line's fields were looked for
-known : (c : After-cut-f) → Fielded c.args.line.now c.cut-f.result
-known c = fielded longest 4 c.args.line.now c.cut-f.ensures
-
-are : (c : After-cut-f) → fields_by c.cut-f.result c.args.line.now ≡ fields c.args.line.now
-unfolding fields
-are c = cut-fields longest 4 c.args.line.now (omega arith) c.cut-f.ensures
+pub returns-in_err-f : goal.returns-in_err-f
+returns-in_err-f c = c.from_residual.ensures ∙ sym (no_fields-spelled c.args.at c.args.line.now c.in_err-f.ensures)
 
 pub part-requires : goal.part-requires
-part-requires c = known (goal.at.part-requires c).After-cut-f
+part-requires c = fielded _ _ _ (sym c.in_ok-f.ensures)
 
-pub part-requires-2 : goal.part-requires-2
-part-requires-2 c = known (goal.at.part-requires-2 c).After-cut-f
+pub returns-in_err-called : goal.returns-in_err-called
+unfolding whole
+returns-in_err-called c =
+    c.from_residual-in_err-called.ensures
+    ∙ sym (parts-spelled c.args.at c.args.line.now c.in_ok-f.f c.in_ok-f.ensures _ _ _ _ c.part.ensures refl refl refl ∙ rw (← c.in_err-called.ensures))
 
-pub part-requires-3 : goal.part-requires-3
-part-requires-3 c = known (goal.at.part-requires-3 c).After-cut-f
+pub returns-in_err-core : goal.returns-in_err-core
+unfolding whole
+returns-in_err-core c =
+    c.from_residual-in_err-core.ensures
+    ∙ sym
+    (parts-spelled c.args.at c.args.line.now c.in_ok-f.f c.in_ok-f.ensures _ _ _ _ c.part.ensures c.part-2.ensures refl refl
+    ∙ rw (← c.in_ok-called.ensures, ← c.in_err-core.ensures))
 
-pub part-requires-4 : goal.part-requires-4
-part-requires-4 c = known (goal.at.part-requires-4 c).After-cut-f
+pub returns-in_err-card : goal.returns-in_err-card
+unfolding whole
+returns-in_err-card c =
+    c.from_residual-in_err-card.ensures
+    ∙ sym
+    (parts-spelled c.args.at c.args.line.now c.in_ok-f.f c.in_ok-f.ensures _ _ _ _ c.part.ensures c.part-2.ensures c.part-3.ensures refl
+    ∙ rw (← c.in_ok-called.ensures, ← c.in_ok-core.ensures, ← c.in_err-card.ensures))
+
+pub returns-in_err-value : goal.returns-in_err-value
+unfolding whole
+returns-in_err-value c =
+    c.from_residual-in_err-value.ensures
+    ∙ sym
+    (parts-spelled c.args.at c.args.line.now c.in_ok-f.f c.in_ok-f.ensures _ _ _ _ c.part.ensures c.part-2.ensures c.part-3.ensures c.part-4.ensures
+    ∙ rw (← c.in_ok-called.ensures, ← c.in_ok-core.ensures, ← c.in_ok-card.ensures, ← c.in_err-value.ensures))
 
 pub returns : goal.returns
-unfolding spells meant
+unfolding whole
 returns c =
     c.spelt.ensures
-    ∙ rw (
-      c.verb-call.ensures,
-      c.part.ensures,
-      c.field-core.ensures,
-      c.part-2.ensures,
-      c.field-card.ensures,
-      c.part-3.ensures,
-      c.field-value.ensures,
-      c.part-4.ensures,
-      are (goal.at.returns c).After-cut-f,
-    )
+    ∙ sym
+    (parts-spelled c.args.at c.args.line.now c.in_ok-f.f c.in_ok-f.ensures _ _ _ _ c.part.ensures c.part-2.ensures c.part-3.ensures c.part-4.ensures
+    ∙ rw (← c.in_ok-called.ensures, ← c.in_ok-core.ensures, ← c.in_ok-card.ensures, ← c.in_ok-value.ensures))
