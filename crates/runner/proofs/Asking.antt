@@ -1,7 +1,10 @@
 -- What a line asks for, carried out: the answer that is listed, the world after it, and how lines are read on.
-use Rattle.std.proofs.Common.{◌≡◌, ℕ, Bool, true, false, cond, not, eqb, ltb, List, ◌∷◌, sym, refl, ap, ◌∙◌, true≢false, eqb-true}
+use Rattle.std.proofs.Common.{◌≡◌, ℕ, Bool, true, false, cond, not, eqb, ltb, List, ◌∷◌, sym, refl, ap, ◌∙◌, true≢false, eqb-true, Option, Some, None}
 use Rattle.one_core.specs.Calls.{first}
 use Rattle.one_core.specs.declared.Answer.TheVariants.{Ready, Refused}
+use Rattle.one_core.specs.declared.Refusal.{Refusal}
+use Rattle.one_core.specs.declared.Refusal.TheVariants.{Unsound, Malformed}
+use Rattle.one_core.specs.Refusal.{number}
 use Rattle.one_core.specs.declared.calls.Act.{Act}
 use Rattle.machine.specs.Record.{blank}
 use Rattle.machine.specs.Sound as Sound
@@ -11,9 +14,7 @@ use Rattle.machine.specs.OneCore.{call_of}
 use Rattle.machine.specs.declared.Machine.{Machine}
 use Rattle.machine.specs.declared.Outcome.{Outcome}
 use Rattle.script.specs.declared.Call.{Call}
-use Rattle.script.specs.declared.Line.{Line}
 use Rattle.script.specs.declared.Columns.{Columns}
-use Rattle.script.specs.declared.Names.{Names}
 use Rattle.script.specs.Line.{names, spells}
 use Rattle.request.specs.declared.Asked.{Asked}
 use Rattle.request.specs.Asks.{most_lines, of_names, made, unfounded, of_line, asks}
@@ -22,7 +23,8 @@ use Rattle.runner.specs.Listing.{nothing, Anew, Asks, request, met, answered}
 -- whether an answer is listed
 abbrev pub lists : Asked → Bool
 lists (Asked.Order at) = false
-lists (Asked.Refused n on) = true
+lists (Asked.Refused x) = true
+lists (Asked.Ended x) = true
 lists (Asked.Setup cores cards) = true
 lists (Asked.Commit c) = true
 lists (Asked.One c a) = true
@@ -30,7 +32,8 @@ lists (Asked.One c a) = true
 -- whether lines are still read
 abbrev pub goes : Asked → Bool
 goes (Asked.Order at) = true
-goes (Asked.Refused n on) = on
+goes (Asked.Refused x) = true
+goes (Asked.Ended x) = false
 goes (Asked.Setup cores cards) = true
 goes (Asked.Commit c) = true
 goes (Asked.One c a) = true
@@ -38,7 +41,8 @@ goes (Asked.One c a) = true
 -- the order of the fields of the lines after it
 abbrev pub ordered : Columns → Asked → Columns
 ordered at (Asked.Order at') = at'
-ordered at (Asked.Refused n on) = at
+ordered at (Asked.Refused x) = at
+ordered at (Asked.Ended x) = at
 ordered at (Asked.Setup cores cards) = at
 ordered at (Asked.Commit c) = at
 ordered at (Asked.One c a) = at
@@ -46,7 +50,8 @@ ordered at (Asked.One c a) = at
 -- whether a machine is needed
 abbrev pub calls : Asked → Bool
 calls (Asked.Order at) = false
-calls (Asked.Refused n on) = false
+calls (Asked.Refused x) = false
+calls (Asked.Ended x) = false
 calls (Asked.Setup cores cards) = false
 calls (Asked.Commit c) = true
 calls (Asked.One c a) = true
@@ -54,7 +59,8 @@ calls (Asked.One c a) = true
 -- the answer, and the world after it
 abbrev pub outcome : World → Asked → Result
 outcome w (Asked.Order at) = record { answer = Ready; world = w }
-outcome w (Asked.Refused n on) = record { answer = Refused n; world = w }
+outcome w (Asked.Refused x) = record { answer = Refused (number x); world = w }
+outcome w (Asked.Ended x) = record { answer = Refused (number x); world = w }
 outcome w (Asked.Setup cores cards) = met w (Anew cores cards)
 outcome w (Asked.Commit c) = met w (Asks (Rule.Commit c))
 outcome w (Asked.One c a) = met w (Asks (call_of a c))
@@ -100,10 +106,10 @@ made-called w (Call.GiveUp c) = refl
 made-called w (Call.Finish c) = refl
 
 -- what it asks for is what the listing answers; where there is no core there is no machine
-pub line-answered : (cores : ℕ) (w : World) → (cores ≡ 0 → w ≡ nothing) → (x : Line) → outcome w (of_line cores x) ≡ answered w x
+pub line-answered : (cores : ℕ) (w : World) → (cores ≡ 0 → w ≡ nothing) → (x : Option Call) → outcome w (of_line cores x) ≡ answered w x
 unfolding of_line answered
-line-answered cores w none Line.Malformed = refl
-line-answered cores w none (Line.Spells call) = go (eqb cores 0) refl
+line-answered cores w none None = refl
+line-answered cores w none (Some call) = go (eqb cores 0) refl
   where
     go : (b : Bool) → eqb cores 0 ≡ b → outcome w (cond b (unfounded call) (made call)) ≡ met w (request call)
     go true e = rw (none (eqb-true cores 0 e)) (unfounded-called call)
@@ -115,8 +121,8 @@ pub record Plain (a : Asked) : Type 0 where
   pub goes_on : goes a ≡ true
   pub same-order : (at : Columns) → ordered at a ≡ at
 
-plain-refused : (n : ℕ) → Plain (Asked.Refused n true)
-plain-refused n = record { is-listed = refl; goes_on = refl; same-order = λ at. refl }
+plain-refused : (x : Refusal) → Plain (Asked.Refused x)
+plain-refused x = record { is-listed = refl; goes_on = refl; same-order = λ at. refl }
 
 plain-setup : (cores cards : ℕ) → Plain (Asked.Setup cores cards)
 plain-setup cores cards = record { is-listed = refl; goes_on = refl; same-order = λ at. refl }
@@ -141,18 +147,18 @@ made_plain (Call.Finish c) = plain-one c _
 unfounded-plain : (call : Call) → Plain (unfounded call) × (calls (unfounded call) ≡ false)
 unfolding unfounded
 unfounded-plain (Call.Setup n d) = (plain-setup n d, refl)
-unfounded-plain (Call.Release c number deadline) = (plain-refused 2, refl)
-unfounded-plain (Call.Begin c) = (plain-refused 2, refl)
-unfounded-plain (Call.Read c d) = (plain-refused 2, refl)
-unfounded-plain (Call.Write c d v) = (plain-refused 2, refl)
-unfounded-plain (Call.Commit c) = (plain-refused 2, refl)
-unfounded-plain (Call.GiveUp c) = (plain-refused 2, refl)
-unfounded-plain (Call.Finish c) = (plain-refused 2, refl)
+unfounded-plain (Call.Release c number deadline) = (plain-refused Unsound, refl)
+unfounded-plain (Call.Begin c) = (plain-refused Unsound, refl)
+unfounded-plain (Call.Read c d) = (plain-refused Unsound, refl)
+unfounded-plain (Call.Write c d v) = (plain-refused Unsound, refl)
+unfounded-plain (Call.Commit c) = (plain-refused Unsound, refl)
+unfounded-plain (Call.GiveUp c) = (plain-refused Unsound, refl)
+unfounded-plain (Call.Finish c) = (plain-refused Unsound, refl)
 
-pub line_plain : (cores : ℕ) (x : Line) → Plain (of_line cores x)
+pub line_plain : (cores : ℕ) (x : Option Call) → Plain (of_line cores x)
 unfolding of_line
-line_plain cores Line.Malformed = plain-refused 11
-line_plain cores (Line.Spells call) = go (eqb cores 0)
+line_plain cores None = plain-refused Malformed
+line_plain cores (Some call) = go (eqb cores 0)
   where
     go : (b : Bool) → Plain (cond b (unfounded call) (made call))
     go true = (unfounded-plain call).0
@@ -164,12 +170,12 @@ none-asked : (at : Columns) (n : ℕ) (l : List ℕ) → calls (asks at n l 0) �
 unfolding asks of_names of_line
 none-asked at n l = go (eqb n 1) (ltb most_lines n) (names l) (spells at l)
   where
-    go : (p q : Bool) (x : Names) (y : Line) → calls (cond p (of_names x) (cond q (Asked.Refused 11 false) (of_line 0 y))) ≡ false
-    go true q (Names.Order at) y = refl
-    go true q Names.Malformed y = refl
+    go : (p q : Bool) (x : Option Columns) (y : Option Call) → calls (cond p (of_names x) (cond q (Asked.Ended Malformed) (of_line 0 y))) ≡ false
+    go true q (Some at) y = refl
+    go true q None y = refl
     go false true x y = refl
-    go false false x Line.Malformed = refl
-    go false false x (Line.Spells call) = (unfounded-plain call).1
+    go false false x None = refl
+    go false false x (Some call) = (unfounded-plain call).1
 
 pub founded : (at : Columns) (n : ℕ) (l : List ℕ) (cores : ℕ) (a : Asked) → a ≡ asks at n l cores → (b : Asked) → a ≡ b → calls b ≡ true → cores ≡ 0 → ⊥
 founded at n l cores a is b same needs none =

@@ -1,11 +1,10 @@
 -- How many bytes are always enough for a listing: 18, and 29 for each line of the script; 29,000,047 for every script.
-use Rattle.std.proofs.Common.{◌≡◌, ℕ, zero, suc, ◌+◌, ◌-◌, ◌*◌, ◌/◌, ◌%◌, ◌^◌, ◌<◌, ◌≤◌, Bool, true, false, cond, ltb, List, [], ◌∷◌, ◌++◌, length, refl, arith, length-append, ltb-false, lt-ltb}
+use Rattle.std.proofs.Common.{◌≡◌, ℕ, zero, suc, ◌+◌, ◌-◌, ◌*◌, ◌/◌, ◌%◌, ◌^◌, ◌<◌, ◌≤◌, Bool, true, false, cond, ltb, List, [], ◌∷◌, ◌++◌, length, refl, arith, length-append, ltb-false, lt-ltb, Option, Some, None}
 use Rattle.decimal.specs.Spelling.{spelling, spelling_in, glyph}
 use Rattle.machine.specs.Rule.{World}
 use Rattle.one_core.specs.declared.Answer.{Answer}
 use Rattle.one_core.specs.declared.Answer.TheVariants.{Refused}
 use Rattle.script.specs.declared.Columns.{Columns}
-use Rattle.script.specs.declared.Names.{Names}
 use Rattle.table.specs.Pieces.{lines}
 use Rattle.script.specs.Line.{names, spells}
 use Rattle.listing.specs.Text.{line, said}
@@ -68,9 +67,9 @@ unfolding rows_of rows_after
 body_bytes [] k some h = refused-bytes k some
 body_bytes (l ∷ ls) k some h = go (names l)
   where
-    go : (x : Names) → (length (listed (rows_after x ls)) ≤ 29 * k) × (length (listed (rows_after x ls)) ≤ 29 * (most_lines + 1))
-    go (Names.Order at) = let all = listed-bytes at nothing 2 ls (omega arith) in (omega (arith, h, all.0), omega (arith, all.1))
-    go Names.Malformed = refused-bytes k some
+    go : (x : Option Columns) → (length (listed (rows_after x ls)) ≤ 29 * k) × (length (listed (rows_after x ls)) ≤ 29 * (most_lines + 1))
+    go (Some at) = let all = listed-bytes at nothing 2 ls (omega arith) in (omega (arith, h, all.0), omega (arith, all.1))
+    go None = refused-bytes k some
 
 -- for a script of at most k lines, an empty one counted as one line, 18 + 29 × k bytes are enough
 pub enough : (script : List ℕ) (k : ℕ) → 1 ≤ k → length (lines script) ≤ k → length (listing script) ≤ 18 + 29 * k

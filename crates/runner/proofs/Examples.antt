@@ -17,9 +17,10 @@ use Rattle.one_core.specs.declared.Answer.{Answer}
 use Rattle.one_core.specs.declared.Answer.TheVariants.{Running, Begun, Written, Committed, Refused}
 use Rattle.machine.specs.Words.{Event}
 use Rattle.table.specs.Pieces as Pieces
-use Rattle.table.specs.Pieces.{onto, pieces, lines, same}
+use Rattle.table.specs.Pieces.{onto, pieces, lines}
 use Rattle.table.specs.Fields.{fields_of, place, places_of, all_stand, columns, columns_of}
-use Rattle.script.specs.Line.{fields, ordered, names, verb, numbered, field, with_number, with_dash, spelt, meant, spells}
+use Rattle.script.specs.Line as Line
+use Rattle.script.specs.Line.{fields, ordered, names, verb, field, with_number, with_dash, spelt, meant, spells}
 use Rattle.listing.specs.Text.{said, line}
 use Rattle.runner.specs.Listing.{set_up, met, request, answered, value_rows, rows_after, rows_of, rows, listed, listing}
 use Rattle.runner.specs.Runs.{anew, ends_run, event_of, event, events}
@@ -111,7 +112,7 @@ computed : (map (λ row. listing row.0) table ≡ map (λ row. row.1) table)
     ≡ (did (Rule.Commit 0) (Committed 0) ∷ did (Rule.Write 0 0 5) Written ∷ did (Rule.Begin 0) (Begun 0)
     ∷ did (Rule.Release 0 7 90) Running ∷ did (Rule.Begin 0) (Refused 7) ∷ [])
     ∷ (did (Rule.Finish 0) (Refused 7) ∷ []) ∷ [])
-unfolding table two_runs events ends_run anew event event_of by_line whole case_a case_k case_l ends bytes flatten listing listed rows_of rows_after value_rows answered met request set_up lines Pieces.without_last_empty pieces onto same fields_of place places_of all_stand columns columns_of names ordered spells meant fields verb field numbered with_number with_dash spelt read_as_number is_number all_digits no_leading_zero value_after spelling spelling_in line said rule setup first unless unless_lent released release begun begin set_back_told access_refusal value_read valued read written write contender blocked least_by struck_by cleared changed through commit_refusal commit ended give_up finished finish tally least running in_range sets_within owner_listed idle_clear zombie_empty few_jobs unused_jobs lacked_cores lacked_objects owner_first tickets_differ tickets_given tickets_counted versions_bounded smaller_tickets aborts_bounded sound has collect some each none is_empty added joined meeting below
+unfolding table two_runs events ends_run anew event event_of by_line whole case_a case_k case_l ends bytes flatten listing listed rows_of rows_after value_rows answered met request set_up lines Pieces.without_last_empty pieces onto fields_of place places_of all_stand columns columns_of names ordered spells meant Line.whole fields verb field with_number with_dash spelt read_as_number is_number all_digits no_leading_zero value_after spelling spelling_in line said rule setup first unless unless_lent released release begun begin set_back_told access_refusal value_read valued read written write contender blocked least_by struck_by cleared changed through commit_refusal commit ended give_up finished finish tally least running in_range sets_within owner_listed idle_clear zombie_empty few_jobs unused_jobs lacked_cores lacked_objects owner_first tickets_differ tickets_given tickets_counted versions_bounded smaller_tickets aborts_bounded sound has collect some each none is_empty added joined meeting below
 computed = (refl, refl)
 
 each-listing : map (λ row. listing row.0) table ≡ map (λ row. row.1) table

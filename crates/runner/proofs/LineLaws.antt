@@ -1,10 +1,10 @@
 -- What the listing says of a line that has ended, and of a byte more of a line that has not.
-use Rattle.std.proofs.Common.{◌≡◌, ℕ, ◌+◌, ◌<◌, ◌≤◌, Bool, true, false, cond, eqb, ltb, List, [], ◌∷◌, ◌++◌, length, sym, refl, ap, ◌∙◌, subst, true≢false, append-nil, arith, length-append, ltb-false, ltb-true, le-ltb, lt-ltb, ne_eqb, eqb-true}
+use Rattle.std.proofs.Common.{◌≡◌, ℕ, ◌+◌, ◌<◌, ◌≤◌, Bool, true, false, cond, eqb, ltb, List, [], ◌∷◌, ◌++◌, length, sym, refl, ap, ◌∙◌, subst, true≢false, append-nil, arith, length-append, ltb-false, ltb-true, le-ltb, lt-ltb, ne_eqb, eqb-true, Option, Some, None}
 use borrow.Author.Tests.{eqb-false}
 use Rattle.machine.specs.Rule.{World}
 use Rattle.one_core.specs.declared.Answer.TheVariants.{Refused}
+use Rattle.one_core.specs.declared.Refusal.TheVariants.{Malformed}
 use Rattle.script.specs.declared.Columns.{Columns}
-use Rattle.script.specs.declared.Names.{Names}
 use Rattle.table.specs.Pieces.{lines, pieces, onto, without_last_empty, free}
 use Rattle.table.specs.Fields.{fields_of, place, all_stand, columns, columns_of}
 use Rattle.script.specs.Line.{names, spells, ordered as in_order}
@@ -20,19 +20,19 @@ use Rattle.runner.proofs.Asking.{lists, goes, ordered, outcome, Plain, line_plai
 -- ---- a line that has ended
 
 module _ (at : Columns) (w : World) (l : List ℕ) (ls : List (List ℕ)) where
-  pub names-good : (at' : Columns) → names l ≡ Names.Order at' → listed_from true at 1 w (l ∷ ls) ≡ listed_from true at' 2 nothing ls
+  pub names-good : (at' : Columns) → names l ≡ Some at' → listed_from true at 1 w (l ∷ ls) ≡ listed_from true at' 2 nothing ls
   unfolding listed_from rows_of rows_after listed
   names-good at' e = rw e refl
 
-  pub names-good-end : (at' : Columns) → names l ≡ Names.Order at' → line_end at 1 w l ≡ record { going = true; columns = at'; world = w }
+  pub names-good-end : (at' : Columns) → names l ≡ Some at' → line_end at 1 w l ≡ record { going = true; columns = at'; world = w }
   unfolding line_end names_end
   names-good-end at' e = rw e refl
 
-  pub names-bad-end : names l ≡ Names.Malformed → line_end at 1 w l ≡ record { going = false; columns = at; world = w }
+  pub names-bad-end : names l ≡ None → line_end at 1 w l ≡ record { going = false; columns = at; world = w }
   unfolding line_end names_end
   names-bad-end e = rw e refl
 
-  pub names-bad : names l ≡ Names.Malformed → listed_from true at 1 w (l ∷ ls) ≡ line 1 (Refused 11) ++ listed_from false at 2 w ls
+  pub names-bad : names l ≡ None → listed_from true at 1 w (l ∷ ls) ≡ line 1 (Refused 11) ++ listed_from false at 2 w ls
   unfolding listed_from rows_of rows_after listed
   names-bad e = rw e refl
 
@@ -76,18 +76,18 @@ module _ (at : Columns) (n : ℕ) (w : World) (l : List ℕ) where
   unfolding of_names
   names-lead one blank = subst (λ (k : ℕ). Leads at k w l (of_names (names l))) (sym one) (go (names l) refl)
     where
-      go : (x : Names) → names l ≡ x → Leads at 1 w l (of_names x)
-      go (Names.Order at') e =
+      go : (x : Option Columns) → names l ≡ x → Leads at 1 w l (of_names x)
+      go (Some at') e =
           record {
             listing = λ ls. names-good at w l ls at' e ∙ ap (λ (v : World). listed_from true at' 2 v ls) (sym blank);
             leaving = names-good-end at w l [] at' e;
             few_lines = λ on. omega arith;
           }
-      go Names.Malformed e =
+      go None e =
           record { listing = λ ls. names-bad at w l ls e; leaving = names-bad-end at w l [] e; few_lines = λ on. absurd (true≢false (sym on)) }
 
   module _ (later : 1 < n) where
-    past-lead : most_lines < n → Leads at n w l (Asked.Refused 11 false)
+    past-lead : most_lines < n → Leads at n w l (Asked.Ended Malformed)
     past-lead h =
         record { listing = λ ls. past-most at w l ls n later h; leaving = past-most-end at w l [] n later h; few_lines = λ on. absurd (true≢false (sym on)) }
 
@@ -104,7 +104,7 @@ module _ (at : Columns) (n : ℕ) (w : World) (l : List ℕ) where
   line-leads cores some first none = go (eqb n 1) refl (ltb most_lines n) refl
     where
       go : (p : Bool) → eqb n 1 ≡ p → (q : Bool) → ltb most_lines n ≡ q
-          → Leads at n w l (cond p (of_names (names l)) (cond q (Asked.Refused 11 false) (of_line cores (spells at l))))
+          → Leads at n w l (cond p (of_names (names l)) (cond q (Asked.Ended Malformed) (of_line cores (spells at l))))
       go true e q t = let one = eqb-true n 1 e in names-lead one (none (first one))
       go false e true t = past-lead (omega (arith, some, eqb-false n 1 e)) (ltb-true most_lines n t)
       go false e false t =
@@ -156,5 +156,5 @@ pub no_names : (at : Columns) (w : World) → listed_from true at 1 w (lines [])
 unfolding listed_from rows_of rows_after listed lines pieces without_last_empty
 no_names at w = rw empty-bad refl
   where
-    empty-bad : names [] ≡ Names.Malformed
+    empty-bad : names [] ≡ None
     empty-bad = unfold names in_order columns_of columns all_stand fields_of place pieces in refl

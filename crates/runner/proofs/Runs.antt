@@ -1,6 +1,6 @@
 -- The rows after an accepted setup are a run of the machine, so the claim about whole runs holds of every script (`script-runs`, which
 -- `cards_run` promises).
-use Rattle.std.proofs.Common.{◌≡◌, ℕ, zero, suc, ◌+◌, ◌-◌, ◌*◌, Bool, true, false, cond, ltb, List, [], ◌∷◌, ◌++◌, length, get_or, drop, replicate, sym, refl, ap, ◌∙◌, subst, true≢false, append_assoc, arith, length-append}
+use Rattle.std.proofs.Common.{◌≡◌, ℕ, zero, suc, ◌+◌, ◌-◌, ◌*◌, Bool, true, false, cond, ltb, List, [], ◌∷◌, ◌++◌, length, get_or, drop, replicate, sym, refl, ap, ◌∙◌, subst, true≢false, append_assoc, arith, length-append, Option, Some, None}
 use Rattle.machine.specs.Record.{sizes_in_range}
 use Rattle.machine.specs.Rule as Rule
 use Rattle.machine.specs.Rule.{World, Result, rule}
@@ -9,9 +9,6 @@ use Rattle.machine.specs.Claims.{Run, fresh, then, Claim, worked}
 use Rattle.one_core.specs.declared.Answer.TheVariants.{Ready}
 use Rattle.machine.proofs.Run.WholeRun.{whole_run}
 use Rattle.script.specs.declared.Call.{Call}
-use Rattle.script.specs.declared.Line.{Line}
-use Rattle.script.specs.declared.Line.TheVariants.{Spells, Malformed}
-use Rattle.script.specs.declared.Names.{Names}
 use Rattle.script.specs.declared.Columns.{Columns}
 use Rattle.script.specs.Line.{names, spells}
 use Rattle.table.specs.Pieces.{lines}
@@ -41,11 +38,11 @@ run_on at w₀ w n es (l ∷ ls) run = go (ltb most_lines n) (λ w' es' r. run_o
         more (rule w call).world (record { call = call; answer = (rule w call).answer } ∷ es)
         (then call _ run (record { answer_is = refl; world_is = refl }))
 
-    row : (x : Line) → More
+    row : (x : Option Call) → More
         → (w'' : World)
         × Run w₀ (cond (ends_run x) es (events (event (answered w x).answer x ++ es) (value_rows at (answered w x).world (n + 1) ls))) w''
-    row Malformed more = unfold ends_run event answered in more w es run
-    row (Spells call) more = unfold ends_run event answered in asked (request call) more
+    row None more = unfold ends_run event answered in more w es run
+    row (Some call) more = unfold ends_run event answered in asked (request call) more
 
     go : (past : Bool) → More
         → (w'' : World)
@@ -58,7 +55,7 @@ run_on at w₀ w n es (l ∷ ls) run = go (ltb most_lines n) (λ w' es' r. run_o
 -- ---- the rows below an accepted setup are those of the lines after it
 
 abbrev setup_row : ℕ → ℕ → ℕ → Row
-setup_row n cores cards = record { number = n; spelt = Spells (Call.Setup cores cards); answer = Ready }
+setup_row n cores cards = record { number = n; spelt = Some (Call.Setup cores cards); answer = Ready }
 
 -- of lines that are run on the machine that it gives
 record Below (cores cards : ℕ) (below : List Row) : Type 0 where
@@ -76,9 +73,9 @@ abbrev head : Row → List Row → Row
 head r [] = r
 head r (s ∷ rs) = s
 
-abbrev is_call : Line → Bool
-is_call Malformed = false
-is_call (Spells call) = true
+abbrev is_call : Option Call → Bool
+is_call None = false
+is_call (Some call) = true
 
 module _ (n cores cards : ℕ) (below : List Row) where
   no_row : (above : List Row) → [] ≡ above ++ setup_row n cores cards ∷ below → ⊥
@@ -89,16 +86,16 @@ module _ (n cores cards : ℕ) (below : List Row) where
   not-unread k (r ∷ above) e = no_row above (ap tail e)
 
   -- a setup answered ready is accepted, and leaves its world
-  set-up-here : (at : Columns) (w : World) (x : Line) (k : ℕ) (ls : List (List ℕ)) → x ≡ Spells (Call.Setup cores cards)
+  set-up-here : (at : Columns) (w : World) (x : Option Call) (k : ℕ) (ls : List (List ℕ)) → x ≡ Some (Call.Setup cores cards)
       → (answered w x).answer ≡ Ready → below ≡ value_rows at (answered w x).world k ls → Below cores cards below
   unfolding answered request met
   set-up-here at w x k ls is ready below-are =
       record {
-        ready = sym (ap (λ (y : Line). (answered w y).answer) is) ∙ ready;
+        ready = sym (ap (λ (y : Option Call). (answered w y).answer) is) ∙ ready;
         at = at;
         number = k;
         after = ls;
-        are-rows = below-are ∙ ap (λ (y : Line). value_rows at (answered w y).world k ls) is;
+        are-rows = below-are ∙ ap (λ (y : Option Call). value_rows at (answered w y).world k ls) is;
       }
 
   rows-below : (at : Columns) (w : World) (k : ℕ) (ls : List (List ℕ)) (above : List Row)
@@ -126,9 +123,9 @@ module _ (n cores cards : ℕ) (below : List Row) where
   script-below [] above e = absurd (not-unread 1 above e)
   script-below (l ∷ ls) above e = go (names l) e
     where
-      go : (x : Names) → rows_after x ls ≡ above ++ setup_row n cores cards ∷ below → Below cores cards below
-      go (Names.Order at) e = rows-below at nothing 2 ls above e
-      go Names.Malformed e = absurd (not-unread 1 above e)
+      go : (x : Option Columns) → rows_after x ls ≡ above ++ setup_row n cores cards ∷ below → Below cores cards below
+      go (Some at) e = rows-below at nothing 2 ls above e
+      go None e = absurd (not-unread 1 above e)
 
 -- ---- the claim of the events after an accepted setup
 
@@ -166,12 +163,12 @@ at_drop (x ∷ all) zero l ls e = (ap (λ (ys : List (List ℕ)). get_or ys 0 []
 at_drop (x ∷ all) (suc j) l ls e = at_drop all j l ls e
 
 module _ (call : Call) (r : Row) (below : List Row) where
-  not_there : (k : ℕ) (above : List Row) → unread k ∷ [] ≡ above ++ r ∷ below → r.spelt ≡ Spells call → ⊥
+  not_there : (k : ℕ) (above : List Row) → unread k ∷ [] ≡ above ++ r ∷ below → r.spelt ≡ Some call → ⊥
   not_there k [] e is = true≢false (sym (ap (λ (rs : List Row). is_call (head r rs).spelt) e ∙ ap is_call is))
   not_there k (s ∷ above) e is = omega (arith, ap (λ (rs : List Row). length (tail rs)) e, length-append above (r ∷ below))
 
   spelt-in : (all : List (List ℕ)) (at : Columns) (w : World) (j : ℕ) (ls : List (List ℕ)) (above : List Row) → drop j all ≡ ls
-      → value_rows at w (j + 1) ls ≡ above ++ r ∷ below → r.spelt ≡ Spells call → spells at (get_or all (r.number - 1) []) ≡ Spells call
+      → value_rows at w (j + 1) ls ≡ above ++ r ∷ below → r.spelt ≡ Some call → spells at (get_or all (r.number - 1) []) ≡ Some call
   unfolding value_rows
   spelt-in all at w j [] above left e is = absurd (omega (arith, ap length e, length-append above (r ∷ below)))
   spelt-in all at w j (l ∷ ls) above left e is =
@@ -189,8 +186,8 @@ module _ (call : Call) (r : Row) (below : List Row) where
       more = value_rows at (answered w (spells at l)).world (j + 1 + 1) ls
 
       go : (past : Bool) (above : List Row) → cond past (unread (j + 1) ∷ []) (here ∷ more) ≡ above ++ r ∷ below
-          → ((rest : List Row) → more ≡ rest ++ r ∷ below → spells at (get_or all (r.number - 1) []) ≡ Spells call)
-          → spells at (get_or all (r.number - 1) []) ≡ Spells call
+          → ((rest : List Row) → more ≡ rest ++ r ∷ below → spells at (get_or all (r.number - 1) []) ≡ Some call)
+          → spells at (get_or all (r.number - 1) []) ≡ Some call
       go true above e later = absurd (not_there (j + 1) above e is)
       go false [] e later =
           let same : r.number - 1 ≡ j = omega (arith, ap (λ (rs : List Row). (head r rs).number) e) in
@@ -198,17 +195,17 @@ module _ (call : Call) (r : Row) (below : List Row) where
           ∙ ap (λ (rs : List Row). (head r rs).spelt) e ∙ is
       go false (s ∷ above) e later = later above (ap tail e)
 
-row-spelt : (script : List ℕ) (above below : List Row) (r : Row) (call : Call) → rows script ≡ above ++ r ∷ below → r.spelt ≡ Spells call
-    → (at : Columns) × (names (line_at script 1) ≡ Names.Order at) × (spells at (line_at script r.number) ≡ Spells call)
+row-spelt : (script : List ℕ) (above below : List Row) (r : Row) (call : Call) → rows script ≡ above ++ r ∷ below → r.spelt ≡ Some call
+    → (at : Columns) × (names (line_at script 1) ≡ Some at) × (spells at (line_at script r.number) ≡ Some call)
 row-spelt script above below r call = go (lines script)
   where
-    order : (l : List ℕ) (ls : List (List ℕ)) (x : Names) → names l ≡ x → rows_after x ls ≡ above ++ r ∷ below → r.spelt ≡ Spells call
-        → (at : Columns) × (names l ≡ Names.Order at) × (spells at (get_or (l ∷ ls) (r.number - 1) []) ≡ Spells call)
-    order l ls (Names.Order at) n e is = (at, n, spelt-in call r below (l ∷ ls) at nothing 1 ls above refl (unfold rows_after in e) is)
-    order l ls Names.Malformed n e is = absurd (not_there call r below 1 above (unfold rows_after in e) is)
+    order : (l : List ℕ) (ls : List (List ℕ)) (x : Option Columns) → names l ≡ x → rows_after x ls ≡ above ++ r ∷ below → r.spelt ≡ Some call
+        → (at : Columns) × (names l ≡ Some at) × (spells at (get_or (l ∷ ls) (r.number - 1) []) ≡ Some call)
+    order l ls (Some at) n e is = (at, n, spelt-in call r below (l ∷ ls) at nothing 1 ls above refl (unfold rows_after in e) is)
+    order l ls None n e is = absurd (not_there call r below 1 above (unfold rows_after in e) is)
 
-    go : (ls : List (List ℕ)) → rows_of ls ≡ above ++ r ∷ below → r.spelt ≡ Spells call
-        → (at : Columns) × (names (get_or ls 0 []) ≡ Names.Order at) × (spells at (get_or ls (r.number - 1) []) ≡ Spells call)
+    go : (ls : List (List ℕ)) → rows_of ls ≡ above ++ r ∷ below → r.spelt ≡ Some call
+        → (at : Columns) × (names (get_or ls 0 []) ≡ Some at) × (spells at (get_or ls (r.number - 1) []) ≡ Some call)
     go [] e is = absurd (not_there call r below 1 above (unfold rows_of in e) is)
     go (l ∷ ls) e is = order l ls (names l) refl (unfold rows_of in e) is
 

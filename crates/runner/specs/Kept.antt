@@ -1,5 +1,5 @@
 -- What the runner keeps between two chunks, and what is still to be listed.
-use Rattle.std.specs.Prelude.{◌≡◌, ℕ, ◌+◌, ◌*◌, ◌<◌, ◌≤◌, Bool, true, false, cond, ◌&&◌, ◌||◌, ◌⊎◌, List, [], ◌∷◌, ◌++◌, length, take, drop, replicate, ◌==◌, nat_lt, slice_set}
+use Rattle.std.specs.Prelude.{◌≡◌, ℕ, ◌+◌, ◌*◌, ◌<◌, ◌≤◌, Bool, true, false, cond, ◌&&◌, ◌||◌, ◌⊎◌, List, [], ◌∷◌, ◌++◌, length, take, drop, replicate, ◌==◌, nat_lt, slice_set, Option, Some, None}
 use Rattle.objset.specs.Objset.{most_objects}
 use Rattle.one_core.specs.Parts.{most_cores}
 use Rattle.machine.specs.Record.{blank}
@@ -8,8 +8,6 @@ use Rattle.machine.specs.declared.Machine.{Machine}
 use Rattle.machine.specs.Inside.{WellFormedWorld}
 use Rattle.decimal.specs.Bytes.{byte}
 use Rattle.script.specs.declared.Columns.{Columns}
-use Rattle.script.specs.declared.Names.{Names}
-use Rattle.script.specs.declared.Names.TheVariants.{Order, Malformed}
 use Rattle.script.specs.Line.{longest, names, spells}
 use Rattle.table.specs.Pieces.{lines, free}
 use Rattle.runner.specs.declared.Reading.{Reading}
@@ -97,9 +95,9 @@ pub record Ending : Type 0 where
   pub columns : Columns
   pub world : World
 
-unfoldable pub names_end : Columns → World → Names → Ending
-names_end at w (Order order) = record { going = true; columns = order; world = w }
-names_end at w Malformed = record { going = false; columns = at; world = w }
+unfoldable pub names_end : Columns → World → Option Columns → Ending
+names_end at w (Some order) = record { going = true; columns = order; world = w }
+names_end at w None = record { going = false; columns = at; world = w }
 
 -- the end of line n: the line of names, line 1,000,001, or a line of values
 unfoldable pub line_end : Columns → ℕ → World → List ℕ → Ending

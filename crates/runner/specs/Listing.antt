@@ -6,10 +6,7 @@ use Rattle.machine.specs.Rule.{World, Result, lent, rule}
 use Rattle.one_core.specs.declared.Answer.{Answer}
 use Rattle.one_core.specs.declared.Answer.TheVariants.{Refused}
 use Rattle.script.specs.declared.Call.{Call}
-use Rattle.script.specs.declared.Line.{Line}
-use Rattle.script.specs.declared.Line.TheVariants.{Spells, Malformed}
 use Rattle.script.specs.declared.Columns.{Columns}
-use Rattle.script.specs.declared.Names.{Names}
 use Rattle.table.specs.Pieces.{lines}
 use Rattle.script.specs.Line.{names, spells}
 use Rattle.listing.specs.Text.{heading, line}
@@ -48,21 +45,21 @@ met w (Anew cores cards) = set_up cores cards
 met w (Asks call) = rule w call
 
 -- a line that is not a call yields refusal 11
-unfoldable pub answered : World → Line → Result
-answered w (Spells call) = met w (request call)
-answered w Malformed = record { answer = Refused 11; world = w }
+unfoldable pub answered : World → Option Call → Result
+answered w (Some call) = met w (request call)
+answered w None = record { answer = Refused 11; world = w }
 
 -- ---- the rows of the listing
 
 -- a row: the number of a line of the script, what the line spells, and its answer, of which the listing shows word and value
 pub record Row : Type 0 where
   pub number : ℕ
-  pub spelt : Line
+  pub spelt : Option Call
   pub answer : Answer
 
 -- no call is made, whatever the line holds
 abbrev pub unread : ℕ → Row
-unread n = record { number = n; spelt = Malformed; answer = Refused 11 }
+unread n = record { number = n; spelt = None; answer = Refused 11 }
 
 -- the rows of these lines of values, the first of them with the number n: each gets its answer and the next line is read; line
 -- 1,000,001 is refused 11 and ends the run
@@ -74,9 +71,9 @@ value_rows at w n (l ∷ ls) =
     ∷ value_rows at (answered w (spells at l)).world (n + 1) ls)
 
 -- a bad names line gives `1 refused 11`, and nothing is read after it
-unfoldable pub rows_after : Names → List (List ℕ) → List Row
-rows_after (Names.Order at) ls = value_rows at nothing 2 ls
-rows_after Names.Malformed ls = unread 1 ∷ []
+unfoldable pub rows_after : Option Columns → List (List ℕ) → List Row
+rows_after (Some at) ls = value_rows at nothing 2 ls
+rows_after None ls = unread 1 ∷ []
 
 -- so does empty input
 unfoldable pub rows_of : List (List ℕ) → List Row

@@ -86,9 +86,10 @@ fn line_ended(r: &mut Reading, committed: &mut [u32], pending: &mut [u32]) -> Op
             r.columns = columns;
             None
         }
-        Asked::Refused(refusal, on) => {
-            r.going = on;
-            Some(Answer::Refused(refusal))
+        Asked::Refused(refusal) => Some(Answer::from(refusal)),
+        Asked::Ended(refusal) => {
+            r.going = false;
+            Some(Answer::from(refusal))
         }
         Asked::Setup(cores, cards) => {
             let made = set_up(cores, cards, committed, pending);
@@ -96,7 +97,12 @@ fn line_ended(r: &mut Reading, committed: &mut [u32], pending: &mut [u32]) -> Op
             Some(made.answer)
         }
         Asked::Commit(core) => {
-            let given = commit(&mut r.machine, core, &mut committed[..cards], &pending[..words]);
+            let given = commit(
+                &mut r.machine,
+                core,
+                &mut committed[..cards],
+                &pending[..words],
+            );
             Some(Answer::of(given))
         }
         Asked::One(core, act) => {

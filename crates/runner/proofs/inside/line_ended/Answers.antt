@@ -5,7 +5,7 @@ use Rattle.machine.specs.Rule.{World, Result, rule, commit, Commit}
 use Rattle.request.specs.declared.Asked.{Asked}
 use Rattle.runner.specs.Kept.{held}
 use Rattle.runner.proofs.Asking.{calls, founded}
-use Rattle.runner.proofs.Acts.{none_done}
+use Rattle.runner.proofs.Acts.{refused_done}
 use Rattle.runner.proofs.Sizes.{good-if-some}
 use Rattle.runner.proofs.ByCall.{setup-done, access-done, commit-done}
 use Rattle.runner.proofs.Endings.{order-ended, line-ended}
@@ -34,7 +34,14 @@ returns-in-Order c =
 
 pub returns-in-Refused : goal.returns-in-Refused
 returns-in-Refused c =
-    let e = line-ended _ _ _ c.requires.0 c.requires.1 _ c.end_line-asked.ensures _ c.in-Refused.is refl _ refl _ _ _ _ (none_done _ _ _ c.requires.0.holds _) in
+    let e = line-ended _ _ _ c.requires.0 c.requires.1 _ c.end_line-asked.ensures _ c.in-Refused.is refl _ c.requires.1 _ _ _ _
+    (refused_done _ _ _ c.requires.0.holds _ _ c.from.ensures) in
+    record { fit = e.fit; listed = e.listed; kept = e.kept }
+
+pub returns-in-Ended : goal.returns-in-Ended
+returns-in-Ended c =
+    let e = line-ended _ _ _ c.requires.0 c.requires.1 _ c.end_line-asked.ensures _ c.in-Ended.is refl _ refl _ _ _ _
+    (refused_done _ _ _ c.requires.0.holds _ _ c.from-in-Ended.ensures) in
     record { fit = e.fit; listed = e.listed; kept = e.kept }
 
 pub returns-in-Setup : goal.returns-in-Setup
