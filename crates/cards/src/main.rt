@@ -44,7 +44,8 @@ fn list(rt: &(impl Input + Print)) -> Result<(), Failure> {
             &mut output,
         );
         reading = fed.reading;
-        rt.write_all(&output[..fed.written]).map_err(Failure::Write)?;
+        rt.write_all(&output[..fed.written])
+            .map_err(Failure::Write)?;
         if !reading.going {
             break;
         }
