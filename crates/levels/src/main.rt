@@ -22,7 +22,7 @@ fn main(rt: HostRuntime) {
 fn print_levels(rt: &(impl Input + Print)) -> Result<(), Failure> {
     let mut input = [0u8; LONGEST_SHEET + 1];
     let mut output = [0u8; ROOM];
-    let n = terminal::fill(&mut rt.reader(), &mut input)?;
+    let n = terminal::fill(&mut rt.reader(), &mut input).map_err(Failure::Read)?;
     let k = put_sheet(&input[..n], &mut output);
     rt.write_all(&output[..k]).map_err(Failure::Write)
 }
