@@ -1,15 +1,17 @@
 -- What decides how a field reads: three tests, its digits one by one, and the number that they come to.
 use mathlib.Core.Path.{◌≡◌, refl, sym, ◌∙◌, ap}
+use mathlib.Core.Logic.{dite}
 use mathlib.Core.Bool.{Bool, true, false, cond, ◌&&◌, and-eq-true_iff}
 use mathlib.Core.List.{List, [], ◌∷◌}
 use Prim.Native.Nat.{ℕ, ◌+◌, ◌-◌, ◌*◌, ◌≤◌, ◌<◌}
+use native.Mathlib.Decide.{dec_lt}
 use native.Mathlib.Numerals.{add-one}
 use native.Mathlib.Omega.{arith}
 use lib.Dec.{leb}
 use lib.ListN.{length, get_or, drop, drop_of_length-le}
 use lib.Seq.{drop-cons}
 use borrow.Author.Tests.{le-leb, lt-leb, leb-true}
-use Rattle.decimal.specs.declared.Number.TheVariants.{Value, Malformed}
+use Rattle.std.specs.Prelude.{Some, None}
 use Rattle.decimal.specs.Reading.{largest, all_digits, no_leading_zero, value_after, is_number, read_as_number}
 
 -- ---- digits
@@ -43,19 +45,19 @@ and-false : (t : Bool) → (t && false) ≡ false
 and-false true = refl
 and-false false = refl
 
-no-digits : (field : List ℕ) → all_digits field ≡ false → read_as_number field ≡ Malformed
+no-digits : (field : List ℕ) → all_digits field ≡ false → read_as_number field ≡ None
 unfolding read_as_number is_number
 no-digits field e = rw e
 
-pub no_front : (field : List ℕ) → no_leading_zero field ≡ false → read_as_number field ≡ Malformed
+pub no_front : (field : List ℕ) → no_leading_zero field ≡ false → read_as_number field ≡ None
 unfolding read_as_number is_number
 no_front field e = rw (e, and-false)
 
-too_large : (field : List ℕ) → largest < value_after 0 field → read_as_number field ≡ Malformed
+too_large : (field : List ℕ) → largest < value_after 0 field → read_as_number field ≡ None
 unfolding read_as_number is_number
 too_large field h = rw (lt-leb (value_after 0 field) largest h, and-false)
 
-pub a-number : (field : List ℕ) (n : ℕ) → all_digits field ≡ true → no_leading_zero field ≡ true → value_after 0 field ≡ n → n ≤ largest → read_as_number field ≡ Value n
+pub a-number : (field : List ℕ) (n : ℕ) → all_digits field ≡ true → no_leading_zero field ≡ true → value_after 0 field ≡ n → n ≤ largest → read_as_number field ≡ Some n
 unfolding read_as_number is_number
 a-number field n d f v h = rw (d, f, v, le-leb n largest h)
 
@@ -66,11 +68,11 @@ pub record Reads (field : List ℕ) (n : ℕ) : Type 0 where
   pub small : n ≤ largest
   pub value : value_after 0 field ≡ n
 
-value_of : (t : Bool) (x n : ℕ) → cond t (Value x) Malformed ≡ Value n → (t ≡ true) × (x ≡ n)
+value_of : (t : Bool) (x n : ℕ) → cond t (Some x) None ≡ Some n → (t ≡ true) × (x ≡ n)
 value_of true x n e = (refl, cc)
 value_of false x n e = let z : ◌≡◌ {A = ℕ} 0 1 = cc in absurd (omega arith)
 
-pub reads_as : (field : List ℕ) (n : ℕ) → read_as_number field ≡ Value n → Reads field n
+pub reads_as : (field : List ℕ) (n : ℕ) → read_as_number field ≡ Some n → Reads field n
 unfolding read_as_number is_number
 reads_as field n e =
     let v = value_of (is_number field) (value_after 0 field) n e in
@@ -95,15 +97,18 @@ module _ (field : List ℕ) (n i : ℕ) (so_far : ReadTo field n i) (h : i < len
   unfolding value_after
   value-rest = sym so_far.value ∙ ap (value_after n) rest
 
-  pub below-digits : get_or field i 0 < 48 → read_as_number field ≡ Malformed
-  unfolding all_digits
-  below-digits l = no-digits field (all_rest ∙ rw (lt-leb 48 (get_or field i 0) l))
+  above-digits : ((48 ≤ get_or field i 0) × (get_or field i 0 ≤ 57) → ⊥) → 48 ≤ get_or field i 0 → 57 < get_or field i 0
+  above-digits none low = dite (dec_lt 57 (get_or field i 0)) (λ u. u) (λ u. absurd (none (low, omega arith)))
 
-  pub above-digits : 57 < get_or field i 0 → read_as_number field ≡ Malformed
+  pub no-digit : ((48 ≤ get_or field i 0) × (get_or field i 0 ≤ 57) → ⊥) → read_as_number field ≡ None
   unfolding all_digits
-  above-digits l = no-digits field (all_rest ∙ rw (lt-leb (get_or field i 0) 57 l, and-false))
+  no-digit none =
+      no-digits field
+      (all_rest
+      ∙ dite (dec_lt (get_or field i 0) 48) (λ l. rw (lt-leb 48 (get_or field i 0) l))
+      (λ l. rw (lt-leb (get_or field i 0) 57 (above-digits none (omega arith)), and-false)))
 
-  pub past-largest : largest < n * 10 + (get_or field i 0 - 48) → read_as_number field ≡ Malformed
+  pub past-largest : largest < n * 10 + (get_or field i 0 - 48) → read_as_number field ≡ None
   past-largest l =
       let m : ℕ = n * 10 + (get_or field i 0 - 48) in
       too_large field (omega (arith, value-rest, value_grows m (drop (i + 1) field)))
@@ -114,7 +119,7 @@ module _ (field : List ℕ) (n i : ℕ) (so_far : ReadTo field n i) (h : i < len
     value = sym value-rest;
   }
 
-pub read_whole : (field : List ℕ) (n i : ℕ) → ReadTo field n i → length field ≤ i → no_leading_zero field ≡ true → n ≤ largest → read_as_number field ≡ Value n
+pub read_whole : (field : List ℕ) (n i : ℕ) → ReadTo field n i → length field ≤ i → no_leading_zero field ≡ true → n ≤ largest → read_as_number field ≡ Some n
 unfolding all_digits value_after
 read_whole field n i so_far end front small =
     let none = drop_of_length-le field end in

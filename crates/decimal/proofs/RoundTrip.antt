@@ -7,7 +7,7 @@ use Prim.Native.Nat.{ℕ, ◌+◌, ◌-◌, ◌*◌, ◌/◌, ◌%◌, ◌^◌, 
 use native.Mathlib.Omega.{arith}
 use lib.Dec.{eqb}
 use borrow.Author.Tests.{eqb-false, not-true}
-use Rattle.decimal.specs.declared.Number.TheVariants.{Value}
+use Rattle.std.specs.Prelude.{Some}
 use Rattle.decimal.specs.Spelling.{glyph, spelling}
 use Rattle.decimal.specs.Reading.{largest, all_digits, no_leading_zero, value_after, read_as_number}
 use Rattle.decimal.proofs.Spelling.{spelling-one, spelling-more, spelling-digits, spelling-value, spelling-leads}
@@ -15,7 +15,7 @@ use Rattle.decimal.proofs.Reading.{digits, value_grows, a-number, reads_as}
 
 -- ---- a spelling reads as its number
 
-pub reads-spelling : (n : ℕ) → n ≤ largest → read_as_number (spelling n) ≡ Value n
+pub reads-spelling : (n : ℕ) → n ≤ largest → read_as_number (spelling n) ≡ Some n
 reads-spelling n h =
     let fits : n < 10 ^ 10 = omega arith in
     a-number (spelling n) n (spelling-digits n) (spelling-leads n fits) (spelling-value n fits) h
@@ -49,7 +49,7 @@ spelled (b ∷ c ∷ bs) e f h =
     let first : spelling m ≡ b ∷ [] = rw byte at (spelling-one m (omega arith)) in
     sym (spelled-on m (c ∷ bs) (omega arith) d.rest h ∙ rw first)
 
-pub reads-only-spelling : (field : List ℕ) (n : ℕ) → read_as_number field ≡ Value n → (field ≡ spelling n) × (n ≤ largest)
+pub reads-only-spelling : (field : List ℕ) (n : ℕ) → read_as_number field ≡ Some n → (field ≡ spelling n) × (n ≤ largest)
 reads-only-spelling field n e =
     let r = reads_as field n e in
     (rw r.value at (spelled field r.all r.fronted (omega (arith, r.small, r.value))), r.small)

@@ -1,8 +1,6 @@
 -- Which fields are numbers, and which number each is.
-use Rattle.std.specs.Prelude.{ℕ, ◌+◌, ◌-◌, ◌*◌, Bool, true, false, not, cond, ◌&&◌, List, [], ◌∷◌, eqb, leb}
+use Rattle.std.specs.Prelude.{ℕ, ◌+◌, ◌-◌, ◌*◌, Bool, true, false, not, cond, ◌&&◌, List, [], ◌∷◌, Option, Some, None, eqb, leb}
 use Rattle.decimal.specs.Bytes.{byte}
-use Rattle.decimal.specs.declared.Number.{Number}
-use Rattle.decimal.specs.declared.Number.TheVariants.{Value, Malformed}
 
 -- the largest number
 abbrev pub largest : ℕ
@@ -28,6 +26,6 @@ value_after n (b ∷ bs) = value_after (n * 10 + (b - byte "0")) bs
 unfoldable pub is_number : List ℕ → Bool
 is_number field = (all_digits field && no_leading_zero field) && leb (value_after 0 field) largest
 
--- what a field reads as
-unfoldable pub read_as_number : List ℕ → Number
-read_as_number field = cond (is_number field) (Value (value_after 0 field)) Malformed
+-- what a field reads as: the number that it is, and nothing where it is none
+unfoldable pub read_as_number : List ℕ → Option ℕ
+read_as_number field = cond (is_number field) (Some (value_after 0 field)) None

@@ -5,56 +5,43 @@
 // has a condition.
 #![tactic(auto)]
 
-ghost use Rattle.std.specs.Prelude.{◌≡◌, ◌≤◌, ◌++◌, length, drop};
+ghost use Rattle.std.specs.Prelude.{◌≡◌, ◌-◌, ◌≤◌, ◌++◌, SomeIff, length, drop};
+ghost use Rattle.decimal.specs.Bytes.{byte};
 ghost use Rattle.decimal.specs.Spelling.{spelling, shown, printed};
 ghost use Rattle.decimal.specs.Reading.{no_leading_zero, read_as_number};
 ghost use Rattle.std.specs.Borrow.{sem};
 ghost use Rattle.decimal.specs.Scratch.{keeps_from};
 
-// What a field reads as.
-#[derive(Clone, Copy)]
-pub enum Number {
-    Value(u32),
-    Malformed,
-}
-
-// The largest number. As a u64, a number and one digit more do not wrap.
-const LARGEST: u64 = 4_294_967_295;
-
-// Reads a whole field, and answers with the number that it is, or that it is malformed.
-pub fn read(field: &[u8]) -> Number
+// Reads a whole field: the number that it is, or none where it is malformed.
+pub fn read(field: &[u8]) -> Option<u32>
     ensures { result ≡ read_as_number field.now }
 {
     if !no_leading_zero(field) {
-        return Number::Malformed;
+        return None;
     }
-    let mut n: u64 = 0;
-    let mut i = 0;
-    while i < field.len() {
-        let b = field[i];
-        if b < b'0' || b'9' < b {
-            return Number::Malformed;
-        }
-        n = n * 10 + (b - b'0') as u64;
-        if LARGEST < n {
-            return Number::Malformed;
-        }
-        i += 1;
+    let mut n: u32 = 0;
+    for b in field {
+        n = n.checked_mul(10)?.checked_add(digit(*b)?)?;
     }
-    Number::Value(n as u32)
+    Some(n)
+}
+
+// The digit that a byte is.
+fn digit(b: u8) -> Option<u32>
+    ensures { SomeIff result ((byte "0" ≤ b) × (b ≤ byte "9")) (b - byte "0") }
+{
+    match b {
+        b'0'..=b'9' => Some((b - b'0') as u32),
+        _ => None,
+    }
 }
 
 // Whether a field has a first byte and no leading zero.
+#[tactic(auto, unfolding(crate::specs::Reading::no_leading_zero))]
 fn no_leading_zero(field: &[u8]) -> bool
     ensures { result ≡ no_leading_zero field.now }
 {
-    if field.len() == 0 {
-        return false;
-    }
-    if field.len() == 1 {
-        return true;
-    }
-    field[0] != b'0'
+    !matches!(field, [] | [b'0', _, ..])
 }
 
 // Prints n into the scratch, and answers with its digits, the first part of the scratch: they begin
@@ -110,12 +97,9 @@ fn fill(n: u32, k: usize, scratch: &mut [u8])
     ensures { scratch.new ≡ spelling n ++ drop k scratch.old }
 {
     let mut rest = n;
-    let mut i = k - 1;
-    while 0 < i {
-        let tenth = rest / 10;
-        scratch[i] = b'0' + (rest - 10 * tenth) as u8;
-        rest = tenth;
-        i -= 1;
+    for i in (1..k).rev() {
+        scratch[i] = b'0' + (rest % 10) as u8;
+        rest /= 10;
     }
     scratch[0] = b'0' + rest as u8;
 }

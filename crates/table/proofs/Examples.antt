@@ -2,10 +2,10 @@
 use mathlib.Core.Path.{◌≡◌, refl}
 use mathlib.Core.List.{List, [], ◌∷◌, map}
 use Prim.Native.Nat.{ℕ}
-use lib.ListN.{replicate}
+use Rattle.std.specs.Prelude.{Option, Some, None}
 use Rattle.decimal.specs.Bytes.{ascii}
 use Rattle.table.specs.declared.Fields.{Fields}
-use Rattle.table.specs.Pieces.{onto, pieces, same}
+use Rattle.table.specs.Pieces.{onto, pieces}
 use Rattle.table.specs.Fields.{until_byte, piece_end, field_end, after_field, fields_of, place, places_of, all_stand, columns, columns_of}
 use Rattle.table.specs.Cut.{filled, beginnings, marked, cut_of, held_places}
 
@@ -52,15 +52,15 @@ each-fields = refl
 
 -- ---- what `cut` finds of the same kind of lines: where the fields begin, where one more would, and how many there are
 
-abbrev cut_rows : List (ℕ × ℕ × List ℕ × Fields)
+abbrev cut_rows : List (ℕ × ℕ × List ℕ × Option Fields)
 cut_rows =
-    (7, 3, ascii "a bb cc", record { begins = 0 ∷ 2 ∷ 5 ∷ 8 ∷ 0 ∷ 0 ∷ []; count = 3 })
-    ∷ (9, 2, ascii "a ", record { begins = 0 ∷ 2 ∷ 3 ∷ 0 ∷ 0 ∷ 0 ∷ []; count = 2 })
-    ∷ (9, 1, [], record { begins = 0 ∷ 1 ∷ 0 ∷ 0 ∷ 0 ∷ 0 ∷ []; count = 1 })
-    ∷ (9, 5, ascii "a b c d e", record { begins = 0 ∷ 2 ∷ 4 ∷ 6 ∷ 8 ∷ 10 ∷ []; count = 5 })
+    (7, 3, ascii "a bb cc", Some (record { begins = 0 ∷ 2 ∷ 5 ∷ 8 ∷ 0 ∷ 0 ∷ []; count = 3 }))
+    ∷ (9, 2, ascii "a ", Some (record { begins = 0 ∷ 2 ∷ 3 ∷ 0 ∷ 0 ∷ 0 ∷ []; count = 2 }))
+    ∷ (9, 1, [], Some (record { begins = 0 ∷ 1 ∷ 0 ∷ 0 ∷ 0 ∷ 0 ∷ []; count = 1 }))
+    ∷ (9, 5, ascii "a b c d e", Some (record { begins = 0 ∷ 2 ∷ 4 ∷ 6 ∷ 8 ∷ 10 ∷ []; count = 5 }))
     -- too long, and more fields than are ever looked for
-    ∷ (6, 3, ascii "a bb cc", record { begins = replicate 6 0; count = 0 })
-    ∷ (11, 6, ascii "a b c d e f", record { begins = replicate 6 0; count = 0 })
+    ∷ (6, 3, ascii "a bb cc", None)
+    ∷ (11, 6, ascii "a b c d e f", None)
     ∷ []
 
 each-cut : map (λ row. cut_of row.0 row.1 row.2) cut_rows ≡ map (λ row. row.3) cut_rows
@@ -92,10 +92,10 @@ name_rows =
     ∷ []
 
 each-order : map (λ row. columns_of row.0 row.1 row.2) name_rows ≡ map (λ row. row.3) name_rows
-unfolding columns_of columns all_stand places_of place same fields_of pieces onto
+unfolding columns_of columns all_stand places_of place fields_of pieces onto
 each-order = refl
 
--- the same as they are held: 5 is nowhere
-each-held : map held_places ((1 ∷ 2 ∷ 0 ∷ []) ∷ [] ∷ (0 ∷ 1 ∷ 2 ∷ 3 ∷ 4 ∷ 5 ∷ []) ∷ []) ≡ (1 ∷ 2 ∷ 0 ∷ 5 ∷ 5 ∷ []) ∷ replicate 5 5 ∷ replicate 5 5 ∷ []
+-- the same as they are held: 5 past the names
+each-held : map held_places ((1 ∷ 2 ∷ 0 ∷ []) ∷ [] ∷ (0 ∷ 1 ∷ 2 ∷ 3 ∷ 4 ∷ 5 ∷ []) ∷ []) ≡ Some (1 ∷ 2 ∷ 0 ∷ 5 ∷ 5 ∷ []) ∷ None ∷ None ∷ []
 unfolding held_places filled
 each-held = refl

@@ -2,9 +2,8 @@
 use mathlib.Core.Path.{◌≡◌, sym, ◌∙◌}
 use mathlib.Core.List.{List, [], ◌∷◌, ◌++◌, append_assoc}
 use Prim.Native.Nat.{ℕ, suc, ◌-◌, ◌<◌}
-use native.Mathlib.Nat.{sub-zero}
 use native.Mathlib.Omega.{arith}
-use lib.ListN.{length, get_or, set, replicate, length-append, get_or-append, get_or-replicate}
+use lib.ListN.{length, get_or, set, replicate, length-append, get_or-append}
 use lib.Seq.{set_at}
 use Rattle.table.specs.Cut.{filled}
 
@@ -19,7 +18,3 @@ module _ (places v : ℕ) where
   pub filled_in : (ns : List ℕ) (i : ℕ) → i < length ns → get_or (filled places v ns) i 0 ≡ get_or ns i 0
   unfolding filled
   filled_in ns i h = get_or-append ns (replicate (places - length ns) v) 0 i h
-
-  pub filled-past : (i : ℕ) → i < places → get_or (filled places v []) i 0 ≡ v
-  unfolding filled
-  filled-past i h = rw sub-zero (get_or-replicate places i v 0 h)

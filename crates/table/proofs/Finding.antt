@@ -5,13 +5,14 @@ use Prim.Native.Nat.{ℕ, suc, ◌+◌, ◌-◌, ◌≤◌, ◌<◌}
 use native.Mathlib.Numerals.{add-one}
 use native.Mathlib.Omega.{arith}
 use lib.ListN.{length, get_or, set}
+use Rattle.std.specs.Prelude.{Some, None}
 use Rattle.table.specs.Pieces.{pieces}
 use Rattle.table.specs.Fields.{field_end, after_field}
 use Rattle.table.specs.Cut.{most_fields, filled, beginnings, marked, cut_of}
 use Rattle.table.proofs.PieceEnds.{inside}
 use Rattle.table.proofs.Begins.{begin, next-begin, more, after-end, one_further, no-further, nth-begin, how-many-begin, one_more}
 use Rattle.table.proofs.Filling.{fill-next, filled_in}
-use Rattle.table.proofs.Cuts.{so-many, not-so-many, cut_short, cut-nothing}
+use Rattle.table.proofs.Cuts.{not-so-many, cut-all, cut-nothing}
 
 -- the places where i fields begin, and none yet at those past them
 module _ (line : List ℕ) (places : List ℕ) (i : ℕ) (some : 1 ≤ i) (few : i ≤ most_fields) (e : places ≡ filled (suc most_fields) 0 (beginnings i line 0)) where
@@ -34,7 +35,7 @@ module _ (line : List ℕ) (places : List ℕ) (i : ℕ) (some : 1 ≤ i) (few :
 -- ---- as many fields as were asked for, or more or fewer
 
 module _ (longest count : ℕ) (line : List ℕ) (short : length line ≤ longest) (some : 1 ≤ count) (last : ℕ) (e : last ≡ begin line 0 (count - 1)) where
-  pub fewer : length line < last → cut_of longest count line ≡ marked 0 line
+  pub fewer : length line < last → cut_of longest count line ≡ None
   fewer h = cut-nothing longest count line (not-so-many longest count line short (λ n. omega (arith, no-further line (count - 1) last e h)))
 
   module _ (h : last ≤ length line) where
@@ -44,14 +45,14 @@ module _ (longest count : ℕ) (line : List ℕ) (short : length line ≤ longes
         let back : count - 1 + 1 ≡ count = omega arith in
         (further.0 ∙ ap (begin line 0) back, further.3)
 
-    pub over : field_end line last < length line → cut_of longest count line ≡ marked 0 line
+    pub over : field_end line last < length line → cut_of longest count line ≡ None
     over k =
         let within : begin line 0 count ≤ length line = omega (arith, past-last) in
         cut-nothing longest count line (not-so-many longest count line short (λ n. omega (arith, (more line count 0 (omega arith)).1 within)))
 
-    pub exact : length line ≤ field_end line last → count ≤ most_fields → (cut_of longest count line ≡ marked count line) × (length line + 1 ≡ begin line 0 count)
+    pub exact : length line ≤ field_end line last → count ≤ most_fields → (cut_of longest count line ≡ Some (marked count line)) × (length line + 1 ≡ begin line 0 count)
     unfolding field_end
     exact k few =
         let there : length line + 1 ≡ begin line 0 count = omega (arith, past-last, inside 32 line last (field_end line last) refl h) in
         let size : length (pieces 32 line) ≡ count = omega (arith, past-last, no-further line count (length line + 1) there (omega arith)) in
-        (cut_short longest count line few ∙ ap (λ (n : ℕ). marked n line) (ap length (so-many longest count line short size) ∙ size), there)
+        (cut-all longest count line few short size, there)

@@ -1,9 +1,13 @@
 -- What a caller knows of lines and pieces: how they go by what stands in front of a newline, or of another byte that cuts.
-use mathlib.Core.Path.{◌≡◌, refl, ◌∙◌}
+use mathlib.Core.Path.{◌≡◌, refl, ap, ◌∙◌}
 use mathlib.Core.Bool.{Bool, true, false, not, cond, and-eq-true_iff}
 use mathlib.Core.List.{List, [], ◌∷◌, ◌++◌, append-nil}
-use Prim.Native.Nat.{ℕ}
+use Prim.Native.Nat.{ℕ, ◌+◌, ◌-◌, ◌<◌}
+use native.Mathlib.Omega.{arith}
 use lib.Dec.{eqb}
+use lib.ListN.{length}
+use Rattle.std.specs.List.{count_by}
+use Rattle.std.proofs.lemmas.List.Recursion.{is_count_by}
 use borrow.Author.Tests.{eq-eqb, not-true}
 use Rattle.table.specs.Pieces.{onto, pieces, without_last_empty, lines, free}
 
@@ -33,6 +37,21 @@ pub some-piece : (at : ℕ) (bs : List ℕ) → pieces at bs ≡ first (pieces a
 unfolding pieces first others
 some-piece at [] = refl
 some-piece at (b ∷ bs) = some-cut (eqb b at) b (pieces at bs)
+
+-- one piece more than there are places where the list is cut
+one_counted : (t : Bool) (b : ℕ) (ps : List (List ℕ)) → 0 < length ps
+    → length (cond t ([] ∷ ps) (onto b ps)) - 1 ≡ cond t (1 + (length ps - 1)) (length ps - 1)
+unfolding onto
+one_counted true b ps h = omega arith
+one_counted false b [] h = absurd (omega arith)
+one_counted false b (p ∷ ps) h = refl
+
+pub how-many-pieces : (at : ℕ) (bs : List ℕ) → count_by (λ b. eqb b at) bs + 1 ≡ length (pieces at bs)
+unfolding pieces
+how-many-pieces at bs =
+    let counted = is_count_by (λ bs. length (pieces at bs) - 1) (λ b. eqb b at) refl
+    (λ b bs. one_counted (eqb b at) b (pieces at bs) (omega (arith, ap length (some-piece at bs)))) bs in
+    omega (arith, counted, ap length (some-piece at bs))
 
 -- bytes that are not cut stand in front of the first piece
 pub pieces-begun : (at : ℕ) (p rest : List ℕ) → free at p ≡ true → pieces at (p ++ rest) ≡ (p ++ first (pieces at rest)) ∷ others (pieces at rest)

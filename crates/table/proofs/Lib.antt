@@ -2,7 +2,6 @@
 pub mod Laws
 pub mod PieceEnds
 pub mod Following
-pub mod SameBytes
 pub mod Cuts
 pub mod Ordering
 mod Places

@@ -9,15 +9,15 @@ use native.Mathlib.Omega.{arith}
 use lib.ListN.{length, get_or, drop, drop_of_length-le}
 use lib.Seq.{drop-cons}
 use borrow.Author.Tests.{lt-ltb, ltb-true}
-use Rattle.table.specs.Pieces.{same}
+use Rattle.std.specs.Str.{bytes_eq}
 use Rattle.table.specs.Fields.{place, stands, places_of, all_stand, columns}
 
 module _ (name : List ℕ) (fs : List (List ℕ)) (i : ℕ) where
-  pub found : i < length fs → same (get_or fs i []) name ≡ true → i + place name (drop i fs) ≡ i
+  pub found : i < length fs → bytes_eq (get_or fs i []) name ≡ true → i + place name (drop i fs) ≡ i
   unfolding place
   found h e = rw (drop-cons fs i [] h, e) (omega arith)
 
-  pub passed : i < length fs → same (get_or fs i []) name ≡ false → i + place name (drop i fs) ≡ i + 1 + place name (drop (i + 1) fs)
+  pub passed : i < length fs → bytes_eq (get_or fs i []) name ≡ false → i + place name (drop i fs) ≡ i + 1 + place name (drop (i + 1) fs)
   unfolding place
   passed h e = rw (drop-cons fs i [] h, e, add-one) (omega arith)
 

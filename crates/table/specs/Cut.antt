@@ -1,11 +1,11 @@
 -- What the functions that read a line tell each other: where its fields begin, and where its names stand.
-use Rattle.std.specs.Prelude.{◌≡◌, ℕ, zero, suc, ◌-◌, cond, List, [], ◌∷◌, ◌++◌, leb, length, replicate, take}
+use Rattle.std.specs.Prelude.{◌≡◌, ℕ, zero, suc, ◌-◌, cond, ◌&&◌, List, [], ◌∷◌, ◌++◌, Option, Some, None, leb, ltb, length, replicate, take}
 use Rattle.decimal.specs.Bytes.{byte}
 use Rattle.table.specs.declared.Fields.{Fields}
 use Rattle.table.specs.Pieces.{pieces}
 use Rattle.table.specs.Fields.{after_field, fields_of}
 
--- the most fields that a line may have, and the place of a name that stands nowhere
+-- the most fields that a line may have, and what is held past the places of the names
 abbrev pub most_fields : ℕ
 most_fields = 5
 
@@ -22,21 +22,21 @@ beginnings (suc n) line from = from ∷ beginnings n line (after_field line from
 unfoldable pub marked : ℕ → List ℕ → Fields
 marked n line = record { begins = filled (suc most_fields) 0 (beginnings (suc n) line 0); count = n }
 
--- where the fields of a line begin; none, where it is too long, has more or fewer than were asked for, or more were asked for than a line
--- may have
-unfoldable pub cut_of : ℕ → ℕ → List ℕ → Fields
-cut_of longest count line = marked (cond (leb count most_fields) (length (fields_of longest count line)) 0) line
+-- where the fields of a line begin; none, where it is too long, has more or fewer than were asked for, or none were asked for, or more than a
+-- line may have
+unfoldable pub cut_of : ℕ → ℕ → List ℕ → Option Fields
+cut_of longest count line = cond (ltb 0 (length (fields_of longest count line)) && leb count most_fields) (Some (marked count line)) None
 
 -- the fields are those that were found in this line
 pub record Fielded (line : List ℕ) (f : Fields) : Type 0 where
   pub longest : ℕ
   pub asked : ℕ
-  pub found : f ≡ cut_of longest asked line
+  pub found : cut_of longest asked line ≡ Some f
 
 -- the bytes of the fields that were found in a line
 unfoldable pub fields_by : Fields → List ℕ → List (List ℕ)
 fields_by f line = take f.count (pieces (byte " ") line)
 
--- where each name stands, and nowhere at each place past the names; all nowhere, where there are more names than a line may have fields
-unfoldable pub held_places : List ℕ → List ℕ
-held_places ps = filled most_fields most_fields (cond (leb (length ps) most_fields) ps [])
+-- where each name stands, as it is held; none where they stand nowhere, or where there are more names than a line may have fields
+unfoldable pub held_places : List ℕ → Option (List ℕ)
+held_places ps = cond (ltb 0 (length ps) && leb (length ps) most_fields) (Some (filled most_fields most_fields ps)) None

@@ -1,7 +1,8 @@
 -- The fields of a line, one space between, and where names stand among them.
 use Rattle.std.specs.Prelude.{ℕ, suc, ◌+◌, Bool, true, cond, ◌&&◌, List, [], ◌∷◌, eqb, leb, ltb, length, drop}
 use Rattle.decimal.specs.Bytes.{byte}
-use Rattle.table.specs.Pieces.{pieces, same}
+use Rattle.std.specs.Str.{bytes_eq}
+use Rattle.table.specs.Pieces.{pieces}
 
 -- ---- where a piece of a line ends
 
@@ -34,7 +35,7 @@ fields_of longest count line = cond (leb (length line) longest && eqb (length (p
 -- the place of the first field that is this name; past the last, where none is
 unfoldable pub place : List ℕ → List (List ℕ) → ℕ
 place name [] = 0
-place name (f ∷ fs) = cond (same f name) 0 (suc (place name fs))
+place name (f ∷ fs) = cond (bytes_eq f name) 0 (suc (place name fs))
 
 abbrev pub stands : List ℕ → List (List ℕ) → Bool
 stands name fs = ltb (place name fs) (length fs)

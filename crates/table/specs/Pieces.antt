@@ -1,5 +1,5 @@
 -- A list of bytes cut at a byte, and the lines of a file.
-use Rattle.std.specs.Prelude.{ℕ, Bool, true, false, cond, not, ◌&&◌, List, [], ◌∷◌, eqb}
+use Rattle.std.specs.Prelude.{ℕ, Bool, true, cond, not, ◌&&◌, List, [], ◌∷◌, eqb}
 use Rattle.decimal.specs.Bytes.{byte}
 
 -- a byte in front of the first piece
@@ -22,13 +22,6 @@ without_last_empty (p ∷ q ∷ ps) = p ∷ without_last_empty (q ∷ ps)
 -- the lines of a file, without their newlines; the last newline may be missing
 unfoldable pub lines : List ℕ → List (List ℕ)
 lines file = without_last_empty (pieces (byte "\n") file)
-
--- whether two lists of bytes are the same
-unfoldable pub same : List ℕ → List ℕ → Bool
-same [] [] = true
-same [] (y ∷ ys) = false
-same (x ∷ xs) [] = false
-same (x ∷ xs) (y ∷ ys) = eqb x y && same xs ys
 
 -- whether a byte is nowhere in a list
 unfoldable pub free : ℕ → List ℕ → Bool

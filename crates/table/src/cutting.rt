@@ -1,32 +1,39 @@
-// The fields of a line: where each begins.
-ghost use Rattle.std.specs.Prelude.{◌≡◌};
-ghost use Rattle.table.specs.Cut.{cut_of};
+// The fields of a line: where each begins, and its bytes.
+ghost use Rattle.std.specs.Prelude.{◌≡◌, [], get_or};
+ghost use Rattle.table.specs.Cut.{cut_of, fields_by, Fielded};
 
 use crate::reader::{end_from, next_from};
 use crate::{Fields, MOST_FIELDS};
 
 // Finds where the fields of a line begin by the line reader, one pass over it. None are found where the line is longer than `longest`,
-// where it has more or fewer than `count`, and where `count` is above `MOST_FIELDS`.
-pub fn cut(line: &[u8], longest: usize, count: usize) -> Fields
+// where it has more or fewer than `count`, and where `count` is 0 or above `MOST_FIELDS`.
+pub fn cut(line: &[u8], longest: usize, count: usize) -> Option<Fields>
     ensures { result ≡ cut_of longest count line.now }
 {
-    let none = Fields {
-        begins: [0; MOST_FIELDS + 1],
-        count: 0,
-    };
     if longest < line.len() || count == 0 || MOST_FIELDS < count {
-        return none;
+        return None;
     }
     let mut begins = [0; MOST_FIELDS + 1];
-    let mut i = 1;
-    while i < count {
+    for i in 1..count {
         begins[i] = next_from(line, begins[i - 1]);
-        i += 1;
     }
     let last = begins[count - 1];
     if line.len() < last || end_from(line, last) < line.len() {
-        return none;
+        return None;
     }
     begins[count] = line.len() + 1;
-    Fields { begins, count }
+    Some(Fields { begins, count })
+}
+
+impl Fields {
+    // The bytes of a field of the line, counted from 0; none past the last.
+    pub fn part(self, line: &[u8], n: usize) -> &[u8]
+        requires { Fielded line.now self }
+        ensures { result.now ≡ get_or (fields_by self line.now) n [] }
+    {
+        if self.count <= n {
+            return &[];
+        }
+        &line[self.begins[n]..self.begins[n + 1] - 1]
+    }
 }

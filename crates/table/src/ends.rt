@@ -1,20 +1,23 @@
-// Where a piece of a line ends, and whether two are the same.
-ghost use Rattle.std.specs.Prelude.{◌≡◌};
-ghost use Rattle.table.specs.Pieces.{same};
+// Where a piece of a line ends.
+ghost use Rattle.std.specs.Prelude.{◌≡◌, ◌==◌};
+ghost use Rattle.std.specs.List.{position_or_len};
 ghost use Rattle.table.specs.Fields.{piece_end, field_end, after_field};
 
 // Where the piece that begins at a place ends: at the first byte `at` from there on, or at the line's end.
 pub fn piece_end(line: &[u8], from: usize, at: u8) -> usize
     ensures { result ≡ piece_end at line.now from }
 {
-    let mut i = from;
-    while i < line.len() {
-        if line[i] == at {
-            return i;
-        }
-        i += 1;
-    }
-    i
+    let Some(rest) = line.get(from..) else {
+        return from;
+    };
+    from + until_byte(rest, at)
+}
+
+// How many bytes stand before the first byte `at`, or before the end.
+fn until_byte(bytes: &[u8], at: u8) -> usize
+    ensures { result ≡ position_or_len (λ b. b == at) bytes.now }
+{
+    bytes.iter().take_while(|b| **b != at).count()
 }
 
 // Where the field that begins at a place ends: at the first space from there on, or at the line's end.
@@ -32,21 +35,4 @@ pub(crate) fn after_field(line: &[u8], from: usize) -> usize
         return from;
     }
     field_end(line, from) + 1
-}
-
-// Whether two slices hold the same bytes.
-pub fn same(a: &[u8], b: &[u8]) -> bool
-    ensures { result ≡ same a.now b.now }
-{
-    if a.len() != b.len() {
-        return false;
-    }
-    let mut i = 0;
-    while i < a.len() {
-        if a[i] != b[i] {
-            return false;
-        }
-        i += 1;
-    }
-    true
 }

@@ -11,34 +11,36 @@ pub struct LineReader<'a> {
     pub at: usize,
 }
 
-// A reader of a line, the next field beginning at a place.
-pub fn made<'a>(line: &'a [u8], at: usize) -> LineReader<'a>
-    ensures { (result.line ≡ line.entry) × (result.at ≡ at) }
-{
-    LineReader { line, at }
-}
+impl<'a> LineReader<'a> {
+    // A reader of a line, the next field beginning at a place.
+    pub fn new(line: &'a [u8], at: usize) -> Self
+        ensures { (result.line ≡ line.entry) × (result.at ≡ at) }
+    {
+        LineReader { line, at }
+    }
 
-// Where the next field begins.
-pub fn position<'a>(r: LineReader<'a>) -> usize
-    ensures { result ≡ r.entry.at }
-{
-    r.at
-}
+    // Where the next field begins.
+    pub fn position(self) -> usize
+        ensures { result ≡ self.entry.at }
+    {
+        self.at
+    }
 
-// Where the next field ends.
-pub fn next_end<'a>(r: LineReader<'a>) -> usize
-    ensures { result ≡ field_end r.entry.line.now r.entry.at }
-{
-    field_end(r.line, r.at)
-}
+    // Where the next field ends.
+    pub fn next_end(self) -> usize
+        ensures { result ≡ field_end self.entry.line.now self.entry.at }
+    {
+        field_end(self.line, self.at)
+    }
 
-// The reader moved on past the next field and its space.
-pub fn moved<'a>(r: LineReader<'a>) -> LineReader<'a>
-    ensures { (result.line ≡ r.entry.line) × (result.at ≡ after_field r.entry.line.now r.entry.at) }
-{
-    LineReader {
-        line: r.line,
-        at: after_field(r.line, r.at),
+    // The reader moved on past the next field and its space.
+    pub fn moved(self) -> Self
+        ensures { (result.line ≡ self.entry.line) × (result.at ≡ after_field self.entry.line.now self.entry.at) }
+    {
+        LineReader {
+            at: after_field(self.line, self.at),
+            ..self
+        }
     }
 }
 
@@ -46,12 +48,12 @@ pub fn moved<'a>(r: LineReader<'a>) -> LineReader<'a>
 pub fn end_from(line: &[u8], at: usize) -> usize
     ensures { result ≡ field_end line.now at }
 {
-    next_end(made(line, at))
+    LineReader::new(line, at).next_end()
 }
 
 // Where the field after the one that begins at a place begins, by the reader.
 pub fn next_from(line: &[u8], at: usize) -> usize
     ensures { result ≡ after_field line.now at }
 {
-    position(moved(made(line, at)))
+    LineReader::new(line, at).moved().position()
 }

@@ -1,12 +1,11 @@
--- `table::cutting::cut` meets its contract. The loop's invariant: i fields' beginnings stand in their places. The measure is how many are
--- left. After it the last field begins within the line and ends with it, or the line has more or fewer.
+-- `table::cutting::cut` meets its contract. The loop's invariant: i fields' beginnings stand in their places. After it the last field begins within the line and ends with it, or the line has more or fewer.
 use mathlib.Core.Path.{◌≡◌, refl, sym, ap, ◌∙◌}
 use mathlib.Core.List.{List}
 use Prim.Native.Nat.{ℕ, ◌-◌, ◌≤◌}
 use native.Mathlib.Numerals.{add-one}
 use native.Mathlib.Omega.{arith}
 use lib.ListN.{length, get_or}
-use borrow.Author.Tests.{eqb-false, ltb-false}
+use borrow.Author.Tests.{ltb-false}
 use Rattle.table.specs.Cut.{most_fields, filled, beginnings, marked}
 use Rattle.table.proofs.Begins.{begin}
 use Rattle.table.proofs.Cuts.{no_fields, none-asked, cut-over, cut-nothing}
@@ -17,7 +16,6 @@ use Rattle.table.proofs.cutting.cut.Goals.{then-longest-line-via-then-longest-li
 use Rattle.table.proofs.cutting.cut.Goals.{then-line-last-via-then-line-last, then-line-last-via-else-line-last+then-end_from-line}
 
 pub returns-then-longest-line : goal.returns-then-longest-line
-unfolding marked beginnings filled
 returns-then-longest-line c =
     let line = c.args.line.now in
     let longest = c.args.longest in
@@ -31,7 +29,7 @@ returns-then-longest-line c =
 
 pub loop-i-init : goal.loop-i-init
 unfolding beginnings filled
-loop-i-init c = (omega arith, omega (arith, eqb-false), refl)
+loop-i-init c = refl
 
 -- where the loop runs, the count is one that a line may have
 few : (c : At-loop-i) → c.args.count ≤ most_fields
@@ -52,19 +50,10 @@ offset_bounds-begins-i-in-loop-i c = omega (arith, few (goal.at.offset_bounds-be
 pub bounds-begins-i-in-loop-i : goal.bounds-begins-i-in-loop-i
 bounds-begins-i-in-loop-i c = omega (arith, few (goal.at.bounds-begins-i-in-loop-i c).At-loop-i)
 
-pub overflow_add-i : goal.overflow_add-i
-overflow_add-i c = omega (arith, few (goal.at.overflow_add-i c).At-loop-i)
-
-pub loop-i-smaller : goal.loop-i-smaller
-loop-i-smaller c = omega arith
-
 pub loop-i-preserved : goal.loop-i-preserved
-loop-i-preserved c = (
-  omega arith,
-  omega arith,
-  next-added c.args.line.now c.loop-i.begins c.loop-i.i c.loop-i.invariant.0
-      (omega (arith, few (goal.at.loop-i-preserved c).At-loop-i)) c.loop-i.invariant.2 c.next_from.result c.next_from.ensures,
-)
+loop-i-preserved c =
+    next-added c.args.line.now c.loop-i.begins c.loop-i.i (omega arith)
+    (omega (arith, few (goal.at.loop-i-preserved c).At-loop-i)) c.loop-i.invariant c.next_from.result c.next_from.ensures
 
 pub overflow_sub-last : goal.overflow_sub-last
 overflow_sub-last c = omega arith
@@ -85,13 +74,12 @@ N c = c.args.count
 all-begun : (c : After-loop-i) → c.loop-i.begins ≡ filled 6 0 (beginnings (N c) (L c) 0)
 all-begun c =
     let all : c.loop-i.i ≡ N c = omega arith in
-    c.loop-i.invariant.2 ∙ ap (λ (n : ℕ). filled 6 0 (beginnings n (L c) 0)) all
+    c.loop-i.invariant ∙ ap (λ (n : ℕ). filled 6 0 (beginnings n (L c) 0)) all
 
 last : (c : After-loop-i) → get_or c.loop-i.begins (N c - 1) 0 ≡ begin (L c) 0 (N c - 1)
 last c = last-begin (L c) c.loop-i.begins (N c) (omega arith) (few (goal.at.After-loop-i c).At-loop-i) (all-begun c)
 
 pub returns-then-line-last : goal.returns-then-line-last
-unfolding marked beginnings filled
 returns-then-line-last c =
     let at = (goal.at.returns-then-line-last c).After-loop-i in
     let short : length (L at) ≤ c.args.longest = omega arith in

@@ -1,12 +1,7 @@
--- `table::cutting::cut` meets its contract. The loop's invariant: i fields' beginnings stand in their places. The measure is how many are
--- left. After it the last field begins within the line and ends with it, or the line has more or fewer.
+-- `table::cutting::cut` meets its contract. The loop's invariant: i fields' beginnings stand in their places. After it the last field begins within the line and ends with it, or the line has more or fewer.
 use mathlib.Core.Path.{◌≡◌}
-use Prim.Native.Nat.{◌-◌, ◌≤◌}
 use Rattle.table.specs.Cut.{filled, beginnings}
 use Rattle.table.proofs.cutting.cut.Given as goal
 
 abbrev pub invariant-loop-i : goal.invariant-loop-i
-invariant-loop-i l = (1 ≤ l.i) × (l.i ≤ l.count) × (l.begins ≡ filled 6 0 (beginnings l.i l.line 0))
-
-abbrev pub decreases-loop-i : goal.decreases-loop-i
-decreases-loop-i l = l.count - l.i
+invariant-loop-i l = l.begins ≡ filled 6 0 (beginnings l.i l.line 0)

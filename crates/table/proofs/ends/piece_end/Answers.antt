@@ -1,41 +1,30 @@
--- `table::ends::piece_end` meets its contract. The loop's invariant: the piece ends where it does from `i` on. The measure is what is
--- left of the line.
-use mathlib.Core.Path.{refl, sym, ◌∙◌}
-use mathlib.Core.List.{List}
-use Prim.Native.Nat.{ℕ}
+-- `table::ends::piece_end` meets its contract: past the line's end the piece ends where it begins, and before it at the first byte of the rest
+-- that is the byte asked for.
+use mathlib.Core.Path.{◌≡◌, sym, ap, ◌∙◌}
+use mathlib.Core.Bool.{not}
+use Prim.Native.Nat.{◌+◌, ◌-◌, ◌<◌}
 use native.Mathlib.Omega.{arith}
-use Rattle.table.proofs.PieceEnds.{ends-here, goes_on, line-ends}
+use lib.Dec.{eqb}
+use Rattle.std.proofs.lemmas.List.Sums.{prefix_len-le-length}
+use lib.ListN.{length, drop, length-drop}
+use lib.Seq.{take_all}
+use Rattle.table.specs.Fields.{until_byte, piece_end}
+use Rattle.table.proofs.PieceEnds.{line-ends, until-position}
 use Rattle.table.proofs.ends.piece_end.Goals as goal
-use Rattle.table.proofs.ends.piece_end.Goals.{In-loop-i}
 
-pub loop-i-init : goal.loop-i-init
-loop-i-init c = refl
+pub returns-in_default : goal.returns-in_default
+returns-in_default c =
+    let past : length c.args.line.now < c.args.from = omega (arith, c.in_default.ensures.lookup.0) in
+    sym (line-ends c.args.at c.args.line.now c.args.from (omega arith))
 
-pub bounds-line-i : goal.bounds-line-i
-bounds-line-i c = omega arith
-
--- the line, in a turn
-abbrev L : In-loop-i → List ℕ
-L c = c.args.line.now
-
--- the byte that ends a piece
-abbrev B : In-loop-i → ℕ
-B c = c.args.at
-
-pub returns-then-line-i : goal.returns-then-line-i
-returns-then-line-i c =
-    sym (ends-here (B (goal.at.returns-then-line-i c).In-loop-i) (L (goal.at.returns-then-line-i c).In-loop-i) c.loop-i.i c.loop-i-test.true c.if-line-i.true) ∙ c.loop-i.invariant
-
-pub overflow_add-i : goal.overflow_add-i
-overflow_add-i c = omega arith
-
-pub loop-i-smaller : goal.loop-i-smaller
-loop-i-smaller c = omega arith
-
-pub loop-i-preserved : goal.loop-i-preserved
-loop-i-preserved c =
-    sym (goes_on (B (goal.at.loop-i-preserved c).In-loop-i) (L (goal.at.loop-i-preserved c).In-loop-i) c.loop-i.i c.loop-i-test.true c.if-line-i.false) ∙ c.loop-i.invariant
+pub overflow_add-result : goal.overflow_add-result
+overflow_add-result c =
+    omega (arith, prefix_len-le-length (λ b. not (eqb b c.args.at)) c.in-Some.rest.now, c.until_byte.ensures, c.in-Some.ensures.lookup.0)
 
 pub returns : goal.returns
+unfolding piece_end
 returns c =
-    sym (line-ends c.args.at c.args.line.now c.loop-i.i c.loop-i-test.false) ∙ c.loop-i.invariant
+    let line = c.args.line.now in
+    let rest : c.in-Some.rest.now ≡ drop c.args.from line =
+    c.in-Some.ensures.lookup.0.2 ∙ take_all (length line - c.args.from) (drop c.args.from line) (omega (arith, length-drop c.args.from line)) in
+    ap (◌+◌ c.args.from) (c.until_byte.ensures ∙ sym (until-position c.args.at c.in-Some.rest.now) ∙ ap (until_byte c.args.at) rest)

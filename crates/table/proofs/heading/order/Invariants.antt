@@ -1,8 +1,6 @@
--- `table::heading::order` meets its contract. The loop's invariant: the first i names all stand, and their places are the first i. The
--- measure is how many names are left.
+-- `table::heading::order` meets its contract. The loop's invariant: the first i names all stand, and their places are the first i.
 use mathlib.Core.Path.{◌≡◌}
 use mathlib.Core.Bool.{true}
-use Prim.Native.Nat.{◌-◌, ◌≤◌}
 use lib.ListN.{take}
 use Rattle.table.specs.Pieces.{pieces}
 use Rattle.table.specs.Fields.{places_of, all_stand}
@@ -11,8 +9,5 @@ use Rattle.table.proofs.heading.order.Given as goal
 
 abbrev pub invariant-loop-i : goal.invariant-loop-i
 invariant-loop-i l =
-    (l.i ≤ l.f.count) × (l.places ≡ filled most_fields most_fields (places_of (take l.i (pieces 32 l.names)) (fields_by l.f l.line)))
+    (l.places ≡ filled most_fields most_fields (places_of (take l.i (pieces 32 l.names)) (fields_by l.f l.line)))
     × (all_stand (take l.i (pieces 32 l.names)) (fields_by l.f l.line) ≡ true)
-
-abbrev pub decreases-loop-i : goal.decreases-loop-i
-decreases-loop-i l = l.f.count - l.i
