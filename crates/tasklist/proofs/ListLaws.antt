@@ -1,5 +1,5 @@
 -- What callers know of tasks in a list that they lend: which tasks have room, what `fill` leaves and answers, and that what was filled is taken back.
-use mathlib.Core.Path.{◌≡◌, refl, ◌∙◌, ap}
+use mathlib.Core.Path.{◌≡◌, refl, sym, ◌∙◌, ap}
 use Prim.Native.Nat.{ℕ, ◌≤◌, ◌<◌}
 use mathlib.Core.Logic.{dite}
 use native.Mathlib.Decide.{dec_le}
@@ -152,3 +152,12 @@ module _ (ys : List Task) where
 
   pub empty-keeps : filled_list [] ys ≡ ys
   empty-keeps = keeps-list [] ys (none-refused [] ys (lit≤ tt))
+
+-- tasks that a list has a place for are refused only where there are none
+pub none-filled : (ts ys : List Task) → length ts ≤ length ys → {e : NotTasks} → fill_given ts ys ≡ Err e → ts ≡ []
+none-filled [] ys enough h = refl
+none-filled (t ∷ ts) ys enough h =
+    absurd (no_answer (sym (fills (t ∷ ts) ys (room (t ∷ ts) ys (omega arith) enough)) ∙ h))
+  where
+    no_answer : {n : ℕ} {e : NotTasks} → Ok n ≡ Err e → ⊥
+    no_answer h = cc
