@@ -1,13 +1,14 @@
 -- A listing that is put into the output piece by piece: what holds after each piece.
 use mathlib.Core.Path.{◌≡◌, refl, sym, ap, subst, ◌∙◌}
-use mathlib.Core.Bool.{Bool, true, false, cond}
+use mathlib.Core.Bool.{Bool, true, false, not}
 use mathlib.Core.List.{List, [], ◌++◌, append-nil, append_assoc}
-use Prim.Native.Nat.{ℕ, ◌+◌, ◌-◌, ◌*◌, ◌≤◌, ◌<◌}
+use Prim.Native.Nat.{ℕ, ◌+◌, ◌-◌, ◌*◌, ◌≤◌}
 use native.Mathlib.Omega.{arith}
 use lib.Dec.{leb}
-use lib.ListN.{length, take, drop, length-take, length-append, take-append-drop, drop_of_length-le}
+use lib.ListN.{length, take, drop, length-append, drop_of_length-le}
 use lib.Seq.{length-take-le, take_at, drop_at, drop-drop, drop-append-add}
 use borrow.Author.Tests.{leb-true}
+use Rattle.std.proofs.lemmas.Bool.{not-true}
 use Rattle.listing.specs.Text.{heading, placed, fitting, put}
 use Rattle.listing.proofs.Laws.{fitting-whole, put_whole, placed-whole, placed-length}
 use Rattle.runner.specs.declared.Reading.{Reading}
@@ -86,14 +87,13 @@ pub total-small : (script out₀ text out : List ℕ) (total : ℕ) (left : List
 total-small script out₀ text out total left l =
     omega (arith, enough-any script, l.long, ap length l.whole, length-append text left)
 
--- after `at` bytes of the script
-pub record Running (script out₀ out cs ps scratch : List ℕ) (total : ℕ) (r : Reading) (at : ℕ) : Type 0 where
+-- `left` is what is not run of the script
+pub record Running (script out₀ out cs ps scratch : List ℕ) (total : ℕ) (r : Reading) (left : List ℕ) : Type 0 where
   pub fit : ReadingFits r cs ps
-  pub within : at ≤ length script
   pub scratch-long : length scratch ≡ 16384
   pub text : List ℕ
   pub headed : 18 ≤ total
-  pub so_far : Listed script out₀ text out total (rest r cs ps (drop at script))
+  pub so_far : Listed script out₀ text out total (rest r cs ps left)
 
 -- the whole script: its end adds `piece`, and `out` has it
 pub all_listed : (script out₀ out₁ text out : List ℕ) (total : ℕ) (piece : List ℕ) (k : ℕ) → out₁ ≡ placed 0 heading out₀ → 18 ≤ total
@@ -112,24 +112,15 @@ all_listed script out₀ out₁ text out total piece k e h l count =
           ∙ ap (λ (x : List ℕ). listing script ++ x) (past-heading out₀ out₁ e (total + k) (omega (arith, h)) room),
     )
 
--- a chunk adds `piece`
-pub chunk-listed : (script out₀ text out : List ℕ) (total at end : ℕ) (r r' : Reading) (cs ps cs' ps' scratch : List ℕ) (k : ℕ)
-    → at ≤ end → k ≤ length scratch → Listed script out₀ text out total (rest r cs ps (drop at script))
-    → ((bytes : List ℕ) → rest r cs ps (take (end - at) (drop at script) ++ bytes) ≡ take k scratch ++ rest r' cs' ps' bytes)
-    → Listed script out₀ (text ++ take k scratch) (placed total (take k scratch) out) (total + k) (rest r' cs' ps' (drop end script))
-chunk-listed script out₀ text out total at end r r' cs ps cs' ps' scratch k forward fits l e =
-    subst (λ (n : ℕ). Listed script out₀ (text ++ take k scratch) (placed total (take k scratch) out) (total + n) (rest r' cs' ps' (drop end script)))
+-- a chunk adds what is put of it
+pub chunk-listed : (script out₀ text out : List ℕ) (total : ℕ) (left chunk left' : List ℕ) (r r' : Reading) (cs ps cs' ps' scratch : List ℕ) (k : ℕ)
+    → left ≡ chunk ++ left' → k ≤ length scratch → Listed script out₀ text out total (rest r cs ps left)
+    → ((bytes : List ℕ) → rest r cs ps (chunk ++ bytes) ≡ take k scratch ++ rest r' cs' ps' bytes)
+    → Listed script out₀ (text ++ take k scratch) (placed total (take k scratch) out) (total + k) (rest r' cs' ps' left')
+chunk-listed script out₀ text out total left chunk left' r r' cs ps cs' ps' scratch k cut fits l e =
+    subst (λ (n : ℕ). Listed script out₀ (text ++ take k scratch) (placed total (take k scratch) out) (total + n) (rest r' cs' ps' left'))
     (length-take-le k scratch fits)
-    (piece-listed script out₀ text out total (rest r cs ps (drop at script)) (take k scratch) (rest r' cs' ps' (drop end script)) l
-    (ap (rest r cs ps) cut ∙ e (drop end script)))
-  where
-    there : at + (end - at) ≡ end
-    there = omega (arith, forward)
-
-    cut : drop at script ≡ take (end - at) (drop at script) ++ drop end script
-    cut =
-        sym (take-append-drop (end - at) (drop at script))
-        ∙ ap (λ (x : List ℕ). take (end - at) (drop at script) ++ x) (drop-drop (end - at) at script ∙ ap (λ (n : ℕ). drop n script) there)
+    (piece-listed script out₀ text out total (rest r cs ps left) (take k scratch) (rest r' cs' ps' left') l (ap (rest r cs ps) cut ∙ e left'))
 
 -- the heading in the scratch
 pub heading-put : (scratch scratch' : List ℕ) (k : ℕ) → length scratch ≡ 16384 → k ≡ length (fitting heading scratch) → scratch' ≡ put heading scratch
@@ -139,38 +130,40 @@ heading-put scratch scratch' k long count bytes =
     let eighteen = count ∙ ap length (fitting-whole heading scratch room) in
     (eighteen, ap (take k) (bytes ∙ put_whole heading scratch room) ∙ take_at heading (drop 18 scratch) k (sym eighteen))
 
-pub running-starts : (script out₀ out cs ps scratch piece : List ℕ) (total : ℕ) (r : Reading) → (total ≡ 18) × (piece ≡ heading)
-    → out ≡ placed 0 piece out₀ → length scratch ≡ 16384 → r ≡ started → length cs ≡ 64 → length ps ≡ 1024
-    → Running script out out cs ps scratch total r 0
-running-starts script out₀ out cs ps scratch piece total r put e long new committed pending =
+pub running-starts : (script out₀ out cs ps scratch piece left : List ℕ) (total : ℕ) (r : Reading) → (total ≡ 18) × (piece ≡ heading)
+    → out ≡ placed 0 piece out₀ → length scratch ≡ 16384 → r ≡ started → length cs ≡ 64 → length ps ≡ 1024 → left ≡ script
+    → Running script out out cs ps scratch total r left
+running-starts script out₀ out cs ps scratch piece left total r put e long new committed pending all =
     record {
       fit = start-fit r cs ps new committed pending;
-      within = omega arith;
       scratch-long = long;
       text = heading;
       headed = omega (arith, put.0);
-      so_far = subst (λ (n : ℕ). Listed script out heading out n (rest r cs ps script)) (sym put.0)
+      so_far = subst (λ (n : ℕ). Listed script out heading out n (rest r cs ps left)) (sym put.0)
+          (subst (λ (x : List ℕ). Listed script out heading out 18 (rest r cs ps x)) (sym all)
           (subst (λ (x : List ℕ). Listed script out heading out 18 x) (sym (start-whole r cs ps new script))
-          (heading-listed script out₀ out (e ∙ ap (λ (x : List ℕ). placed 0 x out₀) put.1)));
+          (heading-listed script out₀ out (e ∙ ap (λ (x : List ℕ). placed 0 x out₀) put.1))));
     }
 
-module _ (script out₀ out cs ps scratch : List ℕ) (total : ℕ) (r : Reading) (at : ℕ) (run : Running script out₀ out cs ps scratch total r at) where
-  pub running-goes : (end : ℕ) (r' : Reading) (cs' ps' scratch' out' : List ℕ) (k : ℕ) → at < end → end ≤ length script → ReadingFits r' cs' ps'
+module _ (script out₀ out cs ps scratch : List ℕ) (total : ℕ) (r : Reading) (left : List ℕ) (run : Running script out₀ out cs ps scratch total r left) where
+  pub running-goes : (chunk left' : List ℕ) (r' : Reading) (cs' ps' scratch' out' : List ℕ) (k : ℕ) → left ≡ chunk ++ left' → ReadingFits r' cs' ps'
       → length scratch' ≡ 16384 → k ≤ 16384
-      → ((bytes : List ℕ) → rest r cs ps (take (end - at) (drop at script) ++ bytes) ≡ take k scratch' ++ rest r' cs' ps' bytes)
-      → out' ≡ placed total (take k scratch') out → Running script out₀ out' cs' ps' scratch' (total + k) r' end
-  running-goes end r' cs' ps' scratch' out' k forward within fit long few e put =
+      → ((bytes : List ℕ) → rest r cs ps (chunk ++ bytes) ≡ take k scratch' ++ rest r' cs' ps' bytes)
+      → out' ≡ placed total (take k scratch') out → Running script out₀ out' cs' ps' scratch' (total + k) r' left'
+  running-goes chunk left' r' cs' ps' scratch' out' k cut fit long few e put =
       record {
         fit = fit;
-        within = within;
         scratch-long = long;
         text = run.text ++ take k scratch';
         headed = omega (arith, run.headed);
-        so_far = subst (λ (x : List ℕ). Listed script out₀ (run.text ++ take k scratch') x (total + k) (rest r' cs' ps' (drop end script)))
+        so_far = subst (λ (x : List ℕ). Listed script out₀ (run.text ++ take k scratch') x (total + k) (rest r' cs' ps' left'))
             (sym put)
-            (chunk-listed script out₀ run.text out total at end r r' cs ps cs' ps' scratch' k (omega (arith, forward)) (omega (arith, few, long))
-            run.so_far e);
+            (chunk-listed script out₀ run.text out total left chunk left' r r' cs ps cs' ps' scratch' k cut (omega (arith, few, long)) run.so_far e);
       }
+
+  -- nothing is left to run
+  pub all-run : length left ≡ 0 → Running script out₀ out cs ps scratch total r []
+  all-run over = subst (Running script out₀ out cs ps scratch total r) (drop_of_length-le left {i = 0} (omega (arith, over))) run
 
   -- lines are read no more
   none : (bytes : List ℕ) → r.going ≡ false → rest r cs ps bytes ≡ []
@@ -178,40 +171,26 @@ module _ (script out₀ out cs ps scratch : List ℕ) (total : ℕ) (r : Reading
   none bytes over = rw over refl
 
   -- then the rest of the script may be passed over
-  pub running-on : (n : ℕ) → n ≡ cond r.going at (length script) → Running script out₀ out cs ps scratch total r n
-  running-on n is = subst (Running script out₀ out cs ps scratch total r) (sym is) (go r.going refl)
-    where
-      go : (b : Bool) → r.going ≡ b → Running script out₀ out cs ps scratch total r (cond b at (length script))
-      go true e = run
-      go false e =
-          record {
-            fit = run.fit;
-            within = omega arith;
-            scratch-long = run.scratch-long;
-            text = run.text;
-            headed = run.headed;
-            so_far = subst (λ (x : List ℕ). Listed script out₀ run.text out total x)
-                (none (drop at script) e ∙ sym (none (drop (length script) script) e)) run.so_far;
-          }
+  pub passed : not r.going ≡ true → Running script out₀ out cs ps scratch total r []
+  passed stopped =
+      let over = not-true r.going stopped in
+      record {
+        fit = run.fit;
+        scratch-long = run.scratch-long;
+        text = run.text;
+        headed = run.headed;
+        so_far = subst (λ (x : List ℕ). Listed script out₀ run.text out total x) (none left over ∙ sym (none [] over)) run.so_far;
+      }
 
   -- no sum wraps
   pub running-small : total ≤ 32 * (most_lines + 2)
-  running-small = omega (arith, total-small script out₀ run.text out total (rest r cs ps (drop at script)) run.so_far)
+  running-small = omega (arith, total-small script out₀ run.text out total (rest r cs ps left) run.so_far)
 
-  pub running-ends : (out₋ scratch' out' piece : List ℕ) (n : ℕ) → length script ≤ at → out₀ ≡ placed 0 piece out₋ → piece ≡ heading
+  pub running-ends : (out₋ scratch' out' piece : List ℕ) (n : ℕ) → left ≡ [] → out₀ ≡ placed 0 piece out₋ → piece ≡ heading
       → take n scratch' ≡ rest r cs ps [] → n ≤ length scratch' → out' ≡ placed total (take n scratch') out
       → (total + n ≡ length (listing script)) × (total + n ≤ length out₋ → out' ≡ listing script ++ drop (total + n) out₋)
   running-ends out₋ scratch' out' piece n over first head last few put =
       subst (λ (x : List ℕ). (total + n ≡ length (listing script)) × (total + n ≤ length out₋ → x ≡ listing script ++ drop (total + n) out₋)) (sym put)
       (all_listed script out₋ out₀ run.text out total (take n scratch') n (first ∙ ap (λ (x : List ℕ). placed 0 x out₋) head) run.headed
       (subst (λ (x : List ℕ). Listed script out₀ run.text out total x)
-      (ap (rest r cs ps) (drop_of_length-le script {i = at} over) ∙ sym last) run.so_far) (sym (length-take-le n scratch' few)))
-
--- a chunk of at most 512 bytes is listed in at most 16,384
-pub few_bytes : (script : List ℕ) (at end k : ℕ) → end ≤ at + 512 → k ≤ 32 * length (take (end - at) (drop at script)) → k ≤ 16384
-few_bytes script at end k near h = omega (arith, near, h, length-take (end - at) (drop at script))
-
--- less of the script is left
-pub less-left : (going : Bool) (at end long n : ℕ) → at < end → end ≤ long → n ≡ cond going end long → long - n < long - at
-less-left true at end long n forward within is = omega (arith, forward, within, is)
-less-left false at end long n forward within is = omega (arith, forward, within, is)
+      (ap (rest r cs ps) over ∙ sym last) run.so_far) (sym (length-take-le n scratch' few)))

@@ -1,14 +1,14 @@
 -- How many lines a script has, and how many bytes are enough for so many.
-use mathlib.Core.Path.{◌≡◌, refl, sym, ap, ◌∙◌}
+use mathlib.Core.Path.{◌≡◌, refl, ap, ◌∙◌}
 use mathlib.Core.Bool.{Bool, true, false, cond}
-use mathlib.Core.List.{List, [], ◌∷◌, ◌++◌}
-use Prim.Native.Nat.{ℕ, suc, ◌+◌, ◌-◌, ◌*◌, ◌/◌, ◌≤◌, ◌<◌}
+use mathlib.Core.List.{List, [], ◌∷◌, ◌++◌, append_assoc}
+use Prim.Native.Nat.{ℕ, suc, ◌+◌, ◌-◌, ◌*◌, ◌≤◌, ◌<◌}
 use native.Mathlib.Numerals.{add-one}
 use native.Mathlib.Omega.{arith}
 use lib.Dec.{eqb, leb}
-use lib.ListN.{length, take, drop, get_or, length-take, length-drop, length-append, take-append-drop, drop_of_length-le}
-use lib.Seq.{drop-cons, drop-drop}
-use borrow.Author.Tests.{eq-eqb, ne_eqb, le-leb, lt-leb, leb-true, leb-false}
+use lib.ListN.{length, drop, get_or, length-drop, length-append, drop_of_length-le}
+use lib.Seq.{drop-cons}
+use borrow.Author.Tests.{eq-eqb, ne_eqb, leb-true}
 use Rattle.table.specs.Pieces.{onto, pieces, without_last_empty, lines}
 use Rattle.table.proofs.Laws.{some-piece}
 use Rattle.runner.specs.Listing.{listing}
@@ -110,45 +110,46 @@ in-front (b ∷ bs) rest some =
     more b [] h = absurd (omega (arith, h))
     more b (x ∷ xs) h = lines-one-more b x xs
 
-abbrev pub Counted : List ℕ → ℕ → ℕ → Type 0
-Counted script n i = (1 ≤ n) × (n ≤ suc i) × (n + length (lines (drop i script)) ≡ suc (length (lines script)))
+-- n lines begin in what is read of all bytes but the last; `left` is what is not read of them
+abbrev pub Counted : List ℕ → ℕ → List ℕ → Type 0
+Counted script n left = (1 ≤ n) × (n + length left ≤ length script) × (n + length (lines (left ++ drop (length script - 1) script)) ≡ suc (length (lines script)))
 
-pub block-counted : (script : List ℕ) (n i end r : ℕ) → Counted script n i → i ≤ end → end < length script
-    → (length (pieces 10 (take (end - i) (drop i script))) ≡ r + 1) × (r ≤ length (take (end - i) (drop i script)))
-    → Counted script (n + r) end
-block-counted script n i end r inv ahead inside found = (
+pub block-counted : (script : List ℕ) (n r : ℕ) (left block left' : List ℕ) → Counted script n left → left ≡ block ++ left'
+    → (length (pieces 10 block) ≡ r + 1) × (r ≤ length block) → Counted script (n + r) left'
+block-counted script n r left block left' inv cut found = (
   omega (arith, inv.0),
-  omega (arith, inv.1, ahead, found.1, length-take (end - i) (drop i script)),
+  omega (arith, inv.1, found.1, long),
   omega (
     arith,
     inv.2,
     found.0,
     ap (λ (bs : List ℕ). length (lines bs)) split,
-    in-front (take (end - i) (drop i script)) (drop end script) (omega (arith, inside, length-drop end script)),
+    in-front block (left' ++ last) (omega (arith, inv.0, inv.1, length-append left' last, length-drop (length script - 1) script)),
   ),
 )
   where
-    there : i + (end - i) ≡ end
-    there = omega (arith, ahead)
+    last : List ℕ
+    last = drop (length script - 1) script
 
-    split : drop i script ≡ take (end - i) (drop i script) ++ drop end script
-    split =
-        sym (take-append-drop (end - i) (drop i script))
-        ∙ ap (λ (bs : List ℕ). take (end - i) (drop i script) ++ bs)
-        (drop-drop (end - i) i script ∙ ap (λ (k : ℕ). drop k script) there)
+    long : length left ≡ length block + length left'
+    long = ap length cut ∙ length-append block left'
 
--- at the last byte all are counted
-pub all-counted : (script : List ℕ) (n i : ℕ) → Counted script n i → length script ≤ suc i → length (lines script) ≤ n
-all-counted script n i inv h = omega (arith, inv.2, short (drop i script) (omega (arith, h, length-drop i script)))
+    split : left ++ last ≡ block ++ (left' ++ last)
+    split = ap (λ (bs : List ℕ). bs ++ last) cut ∙ append_assoc block left' last
 
--- ---- the test that so many bytes are enough
+-- before the last byte all are counted
+pub all-counted : (script : List ℕ) (n : ℕ) (left : List ℕ) → Counted script n left → length left ≡ 0 → length (lines script) ≤ n
+all-counted script n left inv none =
+    omega (
+      arith,
+      inv.0,
+      inv.1,
+      inv.2,
+      short (left ++ drop (length script - 1) script)
+          (omega (arith, none, inv.0, inv.1, length-append left (drop (length script - 1) script), length-drop (length script - 1) script)),
+    )
 
-pub enough-test : (bytes k : ℕ) → 18 ≤ bytes → leb k ((bytes - 18) / 29) ≡ leb (18 + 29 * k) bytes
-enough-test bytes k some = go (leb k ((bytes - 18) / 29)) refl
-  where
-    go : (b : Bool) → leb k ((bytes - 18) / 29) ≡ b → b ≡ leb (18 + 29 * k) bytes
-    go true e = sym (le-leb (18 + 29 * k) bytes (omega (arith, some, leb-true k ((bytes - 18) / 29) e)))
-    go false e = sym (lt-leb (18 + 29 * k) bytes (omega (arith, some, leb-false k ((bytes - 18) / 29) e)))
+-- ---- so many bytes are enough
 
 -- with an output that is enough, the listing's length is the answer
 pub always-enough : (script output : List ℕ) (n : ℕ) → n ≡ length (whole_or_none (listing script) output) → Enough script output n

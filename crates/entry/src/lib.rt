@@ -1,5 +1,5 @@
 // The C entry (include/cards.h): a script in, its listing out; `sheets` has the functions on sheets. `cards_run` has no condition; `newlines`
-// and `chunk_end` beneath it have one each, on lengths.
+// beneath it has one, on a length.
 #![tactic(auto)]
 
 mod sheets;
@@ -57,17 +57,13 @@ pub extern "C" fn cards_run(script: &[u8], output: &mut [u8]) -> usize
 fn lines_of(script: &[u8]) -> usize
     ensures { (1 ≤ result) × (length (lines script.now) ≤ result) }
 {
-    if script.len() == 0 {
-        return 1;
-    }
-    let last = script.len() - 1;
     let mut n = 1;
-    let mut i = 0;
-    while BLOCK <= last - i {
-        n += newlines(&script[i..i + BLOCK]) as usize;
-        i += BLOCK;
+    if let [before @ .., _] = script {
+        for block in before.chunks(BLOCK) {
+            n += newlines(block) as usize;
+        }
     }
-    n + newlines(&script[i..last]) as usize
+    n
 }
 
 // How many newlines a block has: one fewer than the pieces between them. Counted in a byte, so that the compiler compares 16 at a time.
@@ -75,13 +71,11 @@ fn newlines(block: &[u8]) -> u8
     requires { length block.now < 256 }
     ensures { (length (pieces (byte "\n") block.now) ≡ result + 1) × (result ≤ length block.now) }
 {
-    let mut n: u8 = 0;
-    let mut i = 0;
-    while i < block.len() {
-        if block[i] == b'\n' {
+    let mut n = 0;
+    for b in block {
+        if *b == b'\n' {
             n += 1;
         }
-        i += 1;
     }
     n
 }
@@ -90,29 +84,7 @@ fn newlines(block: &[u8]) -> u8
 fn is_enough(bytes: usize, lines: usize) -> bool
     ensures { result ≡ leb (enough_for lines) bytes }
 {
-    if bytes < HEADING {
-        return false;
-    }
-    lines <= (bytes - HEADING) / LINE
-}
-
-// Where the chunk that begins at `at` ends.
-fn chunk_end(length: usize, at: usize) -> usize
-    requires { at < length }
-    ensures { (at < result) × (result ≤ length) × (result ≤ at + 512) }
-{
-    if length - at < CHUNK {
-        length
-    } else {
-        at + CHUNK
-    }
-}
-
-// Where the next chunk begins: at the script's end, once nothing more is read.
-fn resume_at(going: bool, end: usize, length: usize) -> usize
-    ensures { result ≡ cond going end length }
-{
-    if going { end } else { length }
+    HEADING <= bytes && lines <= (bytes - HEADING) / LINE
 }
 
 // How long the script's listing is. Where the output has room for all of it, it is the output's first part, and the bytes after it keep
@@ -127,21 +99,14 @@ fn list_into(script: &[u8], output: &mut [u8]) -> usize
     let mut total = listing::put_heading(&mut text);
     listing::put_bytes(output, 0, &text[..total]);
     let mut reading = Reading::start();
-    let mut at = 0;
-    while at < script.len() {
-        let end = chunk_end(script.len(), at);
-        let fed = inside::feed(
-            reading,
-            &script[at..end],
-            &mut committed,
-            &mut pending,
-            &mut text,
-        );
+    for chunk in script.chunks(CHUNK) {
+        let fed = inside::feed(reading, chunk, &mut committed, &mut pending, &mut text);
         reading = fed.reading;
-        let k = fed.written;
-        listing::put_bytes(output, total, &text[..k]);
-        at = resume_at(reading.going, end, script.len());
-        total += k;
+        listing::put_bytes(output, total, &text[..fed.written]);
+        total += fed.written;
+        if !reading.going {
+            break;
+        }
     }
     let k = inside::finish(reading, &mut committed, &mut pending, &mut text).written;
     listing::put_bytes(output, total, &text[..k]);

@@ -7,11 +7,11 @@ use Rattle.cards.proofs.list.Goals as goal
 
 pub slice_bounds-output-end : goal.slice_bounds-output-end
 slice_bounds-output-end g c =
-    let eighteen = c.put_heading-k.ensures.count ∙ ap length (fitting-whole heading _ (omega (arith, c.put_heading-k.auto.output))) in
-    omega (arith, eighteen, c.put_heading-k.auto.output)
+    let eighteen = c.put_heading-heading.ensures.count ∙ ap length (fitting-whole heading _ (omega (arith, c.put_heading-heading.auto.output))) in
+    omega (arith, eighteen, c.put_heading-heading.auto.output)
 
-pub slice_bounds-written-end : goal.slice_bounds-written-end
-slice_bounds-written-end g c = sym (length-take-le _ _ (slice_bounds-output-end g c.before))
+pub slice_bounds-write_all-end : goal.slice_bounds-write_all-end
+slice_bounds-write_all-end g c = sym (length-take-le _ _ (slice_bounds-output-end g c.before))
 
-pub run-requires : goal.run-requires
-run-requires g c = (start-fit _ _ _ c.start-reading.ensures refl refl, omega (arith, c.put_heading-k.auto.output))
+pub loop-i-init : goal.loop-i-init
+loop-i-init g c = (start-fit _ _ _ c.start-reading.ensures refl refl, refl)

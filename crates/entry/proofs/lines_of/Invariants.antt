@@ -1,11 +1,7 @@
--- `entry::lines_of` meets its contract. The loop's invariant: n lines begin in what is read (`Counted`); the measure is what is left of the
--- script.
-use Prim.Native.Nat.{◌-◌, ◌≤◌}
+-- n lines begin in what is read (`Counted`).
+use Rattle.std.specs.Slice.Iter.{chunks_rest}
 use Rattle.entry.proofs.Lines.{Counted}
 use Rattle.entry.proofs.lines_of.Given as goal
 
-abbrev pub invariant-loop-i : goal.invariant-loop-i
-invariant-loop-i l = (l.i ≤ l.last) × Counted l.script l.n l.i
-
-abbrev pub decreases-loop-i : goal.decreases-loop-i
-decreases-loop-i l = l.last - l.i
+abbrev pub invariant-loop-block : goal.invariant-loop-block
+invariant-loop-block l = Counted l.script l.n (chunks_rest l.block-iterator)

@@ -1,0 +1,9 @@
+-- The reading fits its tables, and the buffers keep their lengths.
+use Rattle.std.proofs.Common.{◌≡◌, length}
+use Rattle.runner.specs.Kept.{ReadingFits}
+use Rattle.cards.proofs.list.Given as goal
+
+abbrev pub invariant-loop-i : goal.invariant-loop-i
+invariant-loop-i g l =
+    ReadingFits l.reading l.committed l.pending
+    × (length l.output ≡ length l.initial.output)

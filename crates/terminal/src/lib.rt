@@ -1,0 +1,41 @@
+// What the programs share: why a run ends early, the words for it, whether there is an argument, and input that is read to its end.
+#![tactic(auto)]
+
+ghost use Rattle.std.specs.Prelude.{◌<◌, ◌≤◌, length, take, IfOk};
+ghost use Rattle.std.specs.Io.KnownBytes.{Consumes, IsAtEnd};
+
+use std::env::{Env, FillError};
+use std::io;
+use std::io::Read;
+use thiserror::Error;
+
+// Why a run ends before its input does, in the words for it.
+#[derive(Debug, Drop, Error)]
+pub enum Failure {
+    #[error("read: {0}")]
+    Read(io::Error),
+    #[error("write: {0}")]
+    Write(io::Error),
+}
+
+// Whether the program was given an argument.
+pub fn has_argument(rt: &impl Env) -> bool {
+    !matches!(rt.arg(1, &mut [0]), Err(FillError::NotPresent))
+}
+
+// Reads until the buffer is full or the input ends, and answers how many bytes of it were read.
+pub fn fill<R: Read>(reader: &mut R, buffer: &mut [u8]) -> io::Result<usize>
+    ensures bound { IfOk result (λ n. n ≤ length buffer.new) }
+    ensures bytes { IfOk result (λ n. Consumes (R.remaining reader.old) (R.remaining reader.new) (take n buffer.new)) }
+    ensures all { IfOk result (λ n. n < length buffer.new → IsAtEnd (R.remaining reader.new)) }
+{
+    let mut n = 0;
+    while n < buffer.len() {
+        let more = reader.read(&mut buffer[n..])?;
+        if more == 0 {
+            break;
+        }
+        n += more;
+    }
+    Ok(n)
+}
