@@ -1,4 +1,6 @@
 -- How the cards of a task are written, and that they read as the set that they were.
+use Rattle.std.specs.Str.{bytes_eq}
+use Rattle.std.specs.Prelude.{Option, None, Some}
 use mathlib.Core.Path.{◌≡◌, refl, sym, ap, ap₂, ◌∙◌}
 use mathlib.Core.Bool.{Bool, true, false, cond, ◌&&◌, ◌||◌, and-true, and-false, or-true, or-false, and-eq-true_iff}
 use mathlib.Core.List.{List, [], ◌∷◌, ◌++◌, map, append-nil}
@@ -10,15 +12,12 @@ use borrow.Author.Tests.{leb-true, le-leb, ltb-true, ltb-false, lt-ltb, le-ltb, 
 use Rattle.decimal.specs.Bytes.{byte, ascii}
 use Rattle.decimal.specs.Spelling.{spelling}
 use Rattle.decimal.specs.Reading.{largest, all_digits, is_number, read_as_number}
-use Rattle.decimal.specs.declared.Number.{Number}
-use Rattle.decimal.specs.declared.Number.TheVariants as Read
 use Rattle.decimal.proofs.Laws.{spelling-length}
 use Rattle.decimal.proofs.RoundTrip.{reads-spelling}
 use Rattle.objset.specs.Objset.{most_objects, has, none, added}
 use Rattle.objset.proofs.Laws.{same-members, has-none, has-added, added-fits, none-zero}
-use Rattle.table.specs.Pieces.{pieces, same, free}
+use Rattle.table.specs.Pieces.{pieces, free}
 use Rattle.table.proofs.Laws.{first, others, pieces-begun, pieces-cut}
-use Rattle.sheet.specs.declared.CardList.{CardList}
 use Rattle.sheet.specs.Sheet.{rising, card_list}
 
 -- ---- how a set of cards is written
@@ -84,11 +83,11 @@ module _ (low high : ℕ) where
 
 -- ---- a spelling has only digits
 
-no-digits : (field : List ℕ) (n : ℕ) (t : Bool) → all_digits field ≡ t → read_as_number field ≡ Read.Value n → t ≡ true
+no-digits : (field : List ℕ) (n : ℕ) (t : Bool) → all_digits field ≡ t → read_as_number field ≡ Some n → t ≡ true
 unfolding read_as_number is_number
 no-digits field n true e r = refl
 no-digits field n false e r =
-    let none : ◌≡◌ {A = Number} Read.Malformed (Read.Value n) = sym (rw e) ∙ r in
+    let none : ◌≡◌ {A = Option ℕ} None (Some n) = sym (rw e) ∙ r in
     let z : ◌≡◌ {A = ℕ} 0 1 = cc in absurd (omega arith)
 
 spelling-digits : (n : ℕ) → n ≤ largest → all_digits (spelling n) ≡ true
@@ -139,17 +138,16 @@ list-pieces d (e ∷ ds) h =
     pieces-cut 44 (spelling d) (spelling e ++ with_commas ds) (no-comma d h.0)
     ∙ ap (λ (ps : List (List ℕ)). spelling d ∷ ps) (list-pieces e ds h.1)
 
-read_back : (ds : List ℕ) → AreCards ds → map read_as_number (map spelling ds) ≡ map Read.Value ds
+read_back : (ds : List ℕ) → AreCards ds → map read_as_number (map spelling ds) ≡ map Some ds
 read_back [] h = refl
-read_back (d ∷ ds) h = ap₂ (λ (n : Number) (ns : List Number). n ∷ ns) (reads-spelling d (omega (arith, h.0))) (read_back ds h.1)
+read_back (d ∷ ds) h = ap₂ (λ (n : Option ℕ) (ns : List (Option ℕ)). n ∷ ns) (reads-spelling d (omega (arith, h.0))) (read_back ds h.1)
 
-not-dash : (p q : List ℕ) → 1 ≤ length p → within 48 57 p ≡ true → same (p ++ q) (ascii "-") ≡ false
-unfolding same
+not-dash : (p q : List ℕ) → 1 ≤ length p → within 48 57 p ≡ true → bytes_eq (p ++ q) (ascii "-") ≡ false
 not-dash [] q h e = absurd (omega arith)
 not-dash (b ∷ p) q h e = let k = within_first 48 57 b p e in rw (ne_eqb b 45 (λ q. omega (arith, k.0)))
 
-list_read : (ds : List ℕ) → AreCards ds → card_list (list_written ds) ≡ rising 0 none (map Read.Value ds)
-unfolding card_list list_written same rising
+list_read : (ds : List ℕ) → AreCards ds → card_list (list_written ds) ≡ rising 0 none (map Some ds)
+unfolding card_list list_written rising
 list_read [] h = refl
 list_read (d ∷ ds) h =
     rw (not-dash (spelling d) (with_commas ds) (spelling-length d).0 (spelling-within d (omega (arith, h.0))), list-pieces d ds h, read_back (d ∷ ds) h)
@@ -186,10 +184,10 @@ without-member s d e m = go (eqb e d) refl
 module _ (s : ℕ) (set : s < 2 ^ 64) where
   -- t has the members of s below d, and those from d on are added
   members-read : (n d least t : ℕ) → n + d ≡ most_objects → least ≤ d → t < 2 ^ 64 → ((e : ℕ) → has t e ≡ (has s e && ltb e d))
-      → rising least t (map Read.Value (members_from s n d)) ≡ CardList.Cards s
+      → rising least t (map Some (members_from s n d)) ≡ Some s
   unfolding members_from rising
   members-read zero d least t h l fits so_far =
-      ap CardList.Cards (same-members t s fits set (λ e k. so_far e ∙ rw (lt-ltb e d (omega (arith, k))) (and-true (has s e))))
+      ap Some (same-members t s fits set (λ e k. so_far e ∙ rw (lt-ltb e d (omega (arith, k))) (and-true (has s e))))
   members-read (suc n) d least t h l fits so_far =
       go (has s d) refl
       (λ q. members-read n (suc d) (suc d) (added t d) (omega arith) (omega arith) (added-fits t d)
@@ -200,14 +198,14 @@ module _ (s : ℕ) (set : s < 2 ^ 64) where
       in-64 = omega arith
 
       go : (q : Bool) → has s d ≡ q
-          → (has s d ≡ true → rising (suc d) (added t d) (map Read.Value (members_from s n (suc d))) ≡ CardList.Cards s)
-          → (has s d ≡ false → rising least t (map Read.Value (members_from s n (suc d))) ≡ CardList.Cards s)
-          → rising least t (map Read.Value (cond q (d ∷ members_from s n (suc d)) (members_from s n (suc d)))) ≡ CardList.Cards s
+          → (has s d ≡ true → rising (suc d) (added t d) (map Some (members_from s n (suc d))) ≡ Some s)
+          → (has s d ≡ false → rising least t (map Some (members_from s n (suc d))) ≡ Some s)
+          → rising least t (map Some (cond q (d ∷ members_from s n (suc d)) (members_from s n (suc d)))) ≡ Some s
       go true q with-d without-d = rw (le-leb least d l, lt-ltb d most_objects in-64) (with-d q)
       go false q with-d without-d = without-d q
 
   -- the cards of a task are read as they were written
-  pub cards-read : card_list (cards_written s) ≡ CardList.Cards s
+  pub cards-read : card_list (cards_written s) ≡ Some s
   unfolding cards_written
   cards-read =
       list_read (members_from s most_objects 0) (members-cards s most_objects 0 refl)

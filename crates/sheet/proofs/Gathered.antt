@@ -1,4 +1,6 @@
 -- The tasks of a sheet are a task set: at most 32, on cores that exist, with different numbers, their cards sets.
+use Rattle.std.specs.Str.{bytes_eq}
+use Rattle.std.specs.Prelude.{Option, None, Some}
 use mathlib.Core.Path.{◌≡◌, refl, sym, ap, ◌∙◌}
 use mathlib.Core.Bool.{Bool, true, false, cond, not, ◌&&◌, ◌||◌, true≢false, and-eq-true_iff}
 use mathlib.Core.List.{List, [], ◌∷◌, ◌++◌, map}
@@ -7,77 +9,69 @@ use native.Mathlib.Omega.{arith}
 use lib.Dec.{eqb, leb, ltb}
 use lib.ListN.{length, length-append}
 use borrow.Author.Tests.{leb-true, ltb-true, le-leb, eqb-false, ne_eqb, not-true}
-use Rattle.decimal.specs.declared.Number.{Number}
-use Rattle.decimal.specs.declared.Number.TheVariants as Read
-use Rattle.decimal.specs.Reading.{largest}
 use Rattle.decimal.specs.Bytes.{ascii}
 use Rattle.objset.specs.Objset.{most_objects, none, added}
 use Rattle.objset.specs.Words.{Words}
 use Rattle.objset.proofs.Laws.{none-zero, added-fits}
-use Rattle.table.specs.Pieces.{same}
 use Rattle.taskset.specs.declared.Task.{Task}
 use Rattle.taskset.specs.Tasks.{most_tasks, last_core, occurs, all_differ, cores_exist, numbers_of, cards_of, is_task_set}
-use Rattle.sheet.specs.declared.TaskLine.{TaskLine}
-use Rattle.sheet.specs.declared.TaskLine.TheVariants as Line
-use Rattle.sheet.specs.declared.CardList.{CardList}
-use Rattle.sheet.specs.Sheet.{rising, comma_list, card_list, with_up_to, with_cards, spelled_task, task_of, task_line, gathered, tasks_below, tasks_of_lines, sheet_tasks, last_task}
+use Rattle.sheet.specs.Sheet.{rising, comma_list, card_list, given, spelled_task, task_of, task_line, gathered, tasks_below, tasks_of_lines, sheet_tasks, last_task}
 
 -- ---- the cards of a task are a set
 
-abbrev AreSet : CardList → Type 0
-AreSet (CardList.Cards s) = s < 2 ^ 64
-AreSet CardList.Malformed = Unit {0}
+abbrev AreSet : Option ℕ → Type 0
+AreSet (Some s) = s < 2 ^ 64
+AreSet None = Unit {0}
 
-rising-set : (least s : ℕ) (ns : List Number) → s < 2 ^ 64 → AreSet (rising least s ns)
+rising-set : (least s : ℕ) (ns : List (Option ℕ)) → s < 2 ^ 64 → AreSet (rising least s ns)
 unfolding rising
 rising-set least s [] h = h
-rising-set least s (Read.Value d ∷ ns) h = go (leb least d && ltb d most_objects) (rising-set (suc d) (added s d) ns (added-fits s d))
+rising-set least s (Some d ∷ ns) h = go (leb least d && ltb d most_objects) (rising-set (suc d) (added s d) ns (added-fits s d))
   where
-    go : (t : Bool) → AreSet (rising (suc d) (added s d) ns) → AreSet (cond t (rising (suc d) (added s d) ns) CardList.Malformed)
+    go : (t : Bool) → AreSet (rising (suc d) (added s d) ns) → AreSet (cond t (rising (suc d) (added s d) ns) None)
     go true more = more
     go false more = tt
-rising-set least s (Read.Malformed ∷ ns) h = tt
+rising-set least s (None ∷ ns) h = tt
 
 none-fits : none < 2 ^ 64
 none-fits = rw none-zero (omega arith)
 
 cards-set : (field : List ℕ) → AreSet (card_list field)
 unfolding card_list
-cards-set field = go (same field (ascii "-"))
+cards-set field = go (bytes_eq field (ascii "-"))
   where
-    go : (t : Bool) → AreSet (cond t (CardList.Cards none) (rising 0 none (comma_list field)))
+    go : (t : Bool) → AreSet (cond t (Some none) (rising 0 none (comma_list field)))
     go true = none-fits
     go false = rising-set 0 none (comma_list field) none-fits
 
 -- ---- a line of a task has a core that exists, and a set of cards
 
-abbrev Fit : TaskLine → Type 0
-Fit (Line.Spells t) = (t.core ≤ last_core) × (t.cards < 2 ^ 64)
-Fit Line.Malformed = Unit {0}
+abbrev Fit : Option Task → Type 0
+Fit (Some t) = (t.core ≤ last_core) × (t.cards < 2 ^ 64)
+Fit None = Unit {0}
 
-with-cards : (cards : CardList) (k : ℕ → TaskLine) → AreSet cards → ((s : ℕ) → s < 2 ^ 64 → Fit (k s)) → Fit (with_cards cards k)
-unfolding with_cards
-with-cards (CardList.Cards s) k fits h = h s fits
-with-cards CardList.Malformed k fits h = tt
+given-fits : (r : Option ℕ) (k : ℕ → Option Task) → ((n : ℕ) → Fit (k n)) → Fit (given r k)
+unfolding given
+given-fits None k h = tt
+given-fits (Some n) k h = h n
 
-with_number : (most : ℕ) (n : Number) (k : ℕ → TaskLine) → ((m : ℕ) → m ≤ most → Fit (k m)) → Fit (with_up_to most n k)
-unfolding with_up_to
-with_number most (Read.Value n) k h = go (leb n most) refl
-  where
-    go : (t : Bool) → leb n most ≡ t → Fit (cond t (k n) Line.Malformed)
-    go true e = h n (leb-true n most e)
-    go false e = tt
-with_number most Read.Malformed k h = tt
+given-set : (r : Option ℕ) (k : ℕ → Option Task) → AreSet r → ((s : ℕ) → s < 2 ^ 64 → Fit (k s)) → Fit (given r k)
+unfolding given
+given-set None k set h = tt
+given-set (Some s) k set h = h s set
 
-spelled-fits : (number core deadline : Number) (cards : CardList) → AreSet cards → Fit (spelled_task number core deadline cards)
+spelled-fits : (t c d s : ℕ) → s < 2 ^ 64 → Fit (spelled_task t c d s)
 unfolding spelled_task
-spelled-fits number core deadline cards set =
-    with_number last_task number _
-    (λ t p. with_number last_core core _ (λ c q. with_number largest deadline _ (λ d r. with-cards cards _ set (λ s f. (q, f)))))
+spelled-fits t c d s fits = go (leb t last_task) (leb c last_core) refl
+  where
+    go : (a b : Bool) → leb c last_core ≡ b → Fit (cond (a && b) (Some (record { number = t; core = c; deadline = d; cards = s })) None)
+    go false b e = tt
+    go true false e = tt
+    go true true e = (leb-true c last_core e, fits)
 
 line-fits : (at line : List ℕ) → Fit (task_line at line)
 unfolding task_line task_of
-line-fits at line = spelled-fits _ _ _ _ (cards-set _)
+line-fits at line = given-fits _ _ (λ t. given-fits _ _ (λ c. given-fits _ _ (λ d. given-set _ _ (cards-set _) (λ s h. spelled-fits t c d s h))))
 
 -- ---- a task more
 
@@ -152,10 +146,10 @@ unfolding gathered
 gathered-all at ts [] g = g
 gathered-all at ts (l ∷ ls) g = go (task_line at l) (line-fits at l) (λ t. gathered-all at (ts ++ (t ∷ [])) ls)
   where
-    go : (line : TaskLine) → Fit line → ((t : Task) → Gathering (ts ++ (t ∷ [])) → Gathering (gathered (ts ++ (t ∷ [])) (map (task_line at) ls)))
+    go : (line : Option Task) → Fit line → ((t : Task) → Gathering (ts ++ (t ∷ [])) → Gathering (gathered (ts ++ (t ∷ [])) (map (task_line at) ls)))
         → Gathering (gathered ts (line ∷ map (task_line at) ls))
-    go Line.Malformed h more = no-tasks
-    go (Line.Spells t) h more = taken (ltb (length ts) most_tasks && not (occurs t.number (numbers_of ts))) refl
+    go None h more = no-tasks
+    go (Some t) h more = taken (ltb (length ts) most_tasks && not (occurs t.number (numbers_of ts))) refl
       where
         taken : (q : Bool) → (ltb (length ts) most_tasks && not (occurs t.number (numbers_of ts))) ≡ q
             → Gathering (cond q (gathered (ts ++ (t ∷ [])) (map (task_line at) ls)) [])

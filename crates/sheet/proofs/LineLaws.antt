@@ -1,46 +1,66 @@
--- Each way that four fields can spell a task, or none.
-use mathlib.Core.Path.{◌≡◌}
+-- Each way that the values of four fields make a task, or none.
+use mathlib.Core.Path.{◌≡◌, sym, ap, ◌∙◌}
+use mathlib.Core.List.{List, []}
 use Prim.Native.Nat.{ℕ, ◌≤◌, ◌<◌}
+use native.Mathlib.Omega.{arith}
+use lib.ListN.{get_or}
 use borrow.Author.Tests.{le-leb, lt-leb}
-use Rattle.decimal.specs.Reading.{largest}
-use Rattle.decimal.specs.declared.Number.{Number}
-use Rattle.decimal.specs.declared.Number.TheVariants as Read
+use Rattle.std.specs.Prelude.{None, Some}
 use Rattle.taskset.specs.Tasks.{last_core}
-use Rattle.sheet.specs.declared.TaskLine.TheVariants as Line
-use Rattle.sheet.specs.declared.CardList.{CardList}
-use Rattle.sheet.specs.Sheet.{last_task, with_up_to, with_cards, spelled_task}
+use Rattle.decimal.specs.Reading.{all_digits, no_leading_zero, is_number, read_as_number}
+use Rattle.table.specs.declared.Fields.{Fields}
+use Rattle.table.specs.Cut.{cut_of, fields_by}
+use Rattle.table.proofs.Cuts.{cut_found, cut-none, fielded, fields-found}
+use Rattle.sheet.specs.Sheet.{longest_line, last_task, card_list, given, spelled_task, task_of, task_line}
 
-module _ (number core deadline : Number) (cards : CardList) where
-  pub no_number : number ≡ Read.Malformed → spelled_task number core deadline cards ≡ Line.Malformed
-  unfolding spelled_task with_up_to
-  no_number e = rw e
+module _ (t c d s : ℕ) where
+  pub number-over : last_task < t → spelled_task t c d s ≡ None
+  unfolding spelled_task
+  number-over h = rw (lt-leb t last_task h)
 
-  module _ (t : ℕ) (is-t : number ≡ Read.Value t) where
-    pub number-over : last_task < t → spelled_task number core deadline cards ≡ Line.Malformed
-    unfolding spelled_task with_up_to
-    number-over h = rw (is-t, lt-leb t last_task h)
+  pub core-over : t ≤ last_task → last_core < c → spelled_task t c d s ≡ None
+  unfolding spelled_task
+  core-over h k = rw (le-leb t last_task h, lt-leb c last_core k)
 
-    module _ (t-fits : t ≤ last_task) where
-      pub no-core : core ≡ Read.Malformed → spelled_task number core deadline cards ≡ Line.Malformed
-      unfolding spelled_task with_up_to
-      no-core e = rw (is-t, le-leb t last_task t-fits, e)
+  pub is-task : t ≤ last_task → c ≤ last_core → spelled_task t c d s ≡ Some (record { number = t; core = c; deadline = d; cards = s })
+  unfolding spelled_task
+  is-task h k = rw (le-leb t last_task h, le-leb c last_core k)
 
-      module _ (c : ℕ) (is_c : core ≡ Read.Value c) where
-        pub core-over : last_core < c → spelled_task number core deadline cards ≡ Line.Malformed
-        unfolding spelled_task with_up_to
-        core-over h = rw (is-t, le-leb t last_task t-fits, is_c, lt-leb c last_core h)
+-- ---- a line, field by field
 
-        module _ (c-fits : c ≤ last_core) where
-          pub no-deadline : deadline ≡ Read.Malformed → spelled_task number core deadline cards ≡ Line.Malformed
-          unfolding spelled_task with_up_to
-          no-deadline e = rw (is-t, le-leb t last_task t-fits, is_c, le-leb c last_core c-fits, e)
+module _ (at line : List ℕ) where
+  pub uncut : cut_of longest_line 4 line ≡ None → task_line at line ≡ None
+  unfolding task_line task_of given read_as_number is_number all_digits no_leading_zero
+  uncut e = rw (cut-none longest_line 4 line e (omega arith))
 
-          module _ (d : ℕ) (is-d : deadline ≡ Read.Value d) (d-fits : d ≤ largest) where
-            pub no-cards : cards ≡ CardList.Malformed → spelled_task number core deadline cards ≡ Line.Malformed
-            unfolding spelled_task with_up_to with_cards
-            no-cards e = rw (is-t, le-leb t last_task t-fits, is_c, le-leb c last_core c-fits, is-d, le-leb d largest d-fits, e)
+  module _ (f : Fields) (e : cut_of longest_line 4 line ≡ Some f) where
+    abbrev pub field : ℕ → List ℕ
+    field n = get_or (fields_by f line) (get_or at n 0) []
 
-            pub is-task : (s : ℕ) → cards ≡ CardList.Cards s
-                → spelled_task number core deadline cards ≡ Line.Spells (record { number = t; core = c; deadline = d; cards = s })
-            unfolding spelled_task with_up_to with_cards
-            is-task s e = rw (is-t, le-leb t last_task t-fits, is_c, le-leb c last_core c-fits, is-d, le-leb d largest d-fits, e)
+    by-fields : task_line at line ≡ task_of at (fields_by f line)
+    unfolding task_line
+    by-fields =
+        ap (task_of at) ((cut_found longest_line 4 line e).fields ∙ sym (fields-found (fielded longest_line 4 line e)))
+
+    pub no-number : read_as_number (field 0) ≡ None → task_line at line ≡ None
+    unfolding task_of given
+    no-number a = by-fields ∙ rw a
+
+    module _ (t : ℕ) (a : read_as_number (field 0) ≡ Some t) where
+      pub no-core : read_as_number (field 1) ≡ None → task_line at line ≡ None
+      unfolding task_of given
+      no-core b = by-fields ∙ rw (a, b)
+
+      module _ (c : ℕ) (b : read_as_number (field 1) ≡ Some c) where
+        pub no-deadline : read_as_number (field 2) ≡ None → task_line at line ≡ None
+        unfolding task_of given
+        no-deadline g = by-fields ∙ rw (a, b, g)
+
+        module _ (d : ℕ) (g : read_as_number (field 2) ≡ Some d) where
+          pub no-cards : card_list (field 3) ≡ None → task_line at line ≡ None
+          unfolding task_of given
+          no-cards h = by-fields ∙ rw (a, b, g, h)
+
+          pub spells : (s : ℕ) → card_list (field 3) ≡ Some s → task_line at line ≡ spelled_task t c d s
+          unfolding task_of given
+          spells s h = by-fields ∙ rw (a, b, g, h)

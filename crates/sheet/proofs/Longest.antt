@@ -1,4 +1,5 @@
 -- How long a sheet can be: 33 lines of at most 1,024 bytes and their newlines. More bytes are none.
+use Rattle.std.specs.Prelude.{Option, None, Some}
 use mathlib.Core.Path.{◌≡◌, refl, sym, ap, ◌∙◌}
 use mathlib.Core.Bool.{Bool, true, false, cond, not, ◌&&◌, true≢false, and-eq-true_iff}
 use mathlib.Core.List.{List, [], ◌∷◌, ◌++◌, map}
@@ -13,9 +14,7 @@ use Rattle.table.specs.Pieces.{onto, pieces, without_last_empty, lines}
 use Rattle.table.specs.Fields.{fields_of, all_stand, columns, columns_of, place}
 use Rattle.taskset.specs.declared.Task.{Task}
 use Rattle.taskset.specs.Tasks.{most_tasks, occurs, numbers_of}
-use Rattle.sheet.specs.declared.TaskLine.{TaskLine}
-use Rattle.sheet.specs.declared.TaskLine.TheVariants as Line
-use Rattle.sheet.specs.Sheet.{longest_line, longest_sheet, sheet_names, with_up_to, spelled_task, task_of, task_line, gathered, tasks_below, tasks_of_lines, sheet_tasks}
+use Rattle.sheet.specs.Sheet.{longest_line, longest_sheet, sheet_names, given, task_of, task_line, gathered, tasks_below, tasks_of_lines, sheet_tasks}
 
 -- ---- the bytes of lines, each with a newline
 
@@ -23,25 +22,25 @@ abbrev total : List (List ℕ) → ℕ
 total [] = 0
 total (p ∷ ps) = length p + 1 + total ps
 
--- some list with a first piece
-abbrev Some : List (List ℕ) → Type 0
-Some ps = (p : List ℕ) × (qs : List (List ℕ)) × (ps ≡ p ∷ qs)
+-- a list with a first piece
+abbrev Filled : List (List ℕ) → Type 0
+Filled ps = (p : List ℕ) × (qs : List (List ℕ)) × (ps ≡ p ∷ qs)
 
-onto-total : (b : ℕ) (ps : List (List ℕ)) → Some ps → (total (onto b ps) ≡ suc (total ps)) × Some (onto b ps)
+onto-total : (b : ℕ) (ps : List (List ℕ)) → Filled ps → (total (onto b ps) ≡ suc (total ps)) × Filled (onto b ps)
 unfolding onto
 onto-total b [] s = absurd (nil s)
   where
-    nil : Some [] → ⊥
+    nil : Filled [] → ⊥
     nil s = omega (arith, ap (λ (ps : List (List ℕ)). length ps) s.2)
 onto-total b (p ∷ ps) s = (omega arith, ((b ∷ p), ps, refl))
 
-pieces-total : (at : ℕ) (bs : List ℕ) → (total (pieces at bs) ≡ length bs + 1) × Some (pieces at bs)
+pieces-total : (at : ℕ) (bs : List ℕ) → (total (pieces at bs) ≡ length bs + 1) × Filled (pieces at bs)
 unfolding pieces
 pieces-total at [] = (refl, ([], [], refl))
 pieces-total at (b ∷ bs) = go (eqb b at) (pieces-total at bs)
   where
-    go : (t : Bool) → (total (pieces at bs) ≡ length bs + 1) × Some (pieces at bs)
-        → (total (cond t ([] ∷ pieces at bs) (onto b (pieces at bs))) ≡ suc (length bs) + 1) × Some (cond t ([] ∷ pieces at bs) (onto b (pieces at bs)))
+    go : (t : Bool) → (total (pieces at bs) ≡ length bs + 1) × Filled (pieces at bs)
+        → (total (cond t ([] ∷ pieces at bs) (onto b (pieces at bs))) ≡ suc (length bs) + 1) × Filled (cond t ([] ∷ pieces at bs) (onto b (pieces at bs)))
     go true h = (omega (arith, h.0), ([], pieces at bs, refl))
     go false h = let o = onto-total b (pieces at bs) h.1 in (omega (arith, h.0, o.0), o.1)
 
@@ -62,8 +61,8 @@ no_fields : (count : ℕ) (line : List ℕ) → longest_line < length line → f
 unfolding fields_of
 no_fields count line h = rw (lt-leb (length line) longest_line h)
 
-long-task : (at line : List ℕ) → longest_line < length line → task_line at line ≡ Line.Malformed
-unfolding task_line task_of spelled_task with_up_to read_as_number is_number all_digits no_leading_zero
+long-task : (at line : List ℕ) → longest_line < length line → task_line at line ≡ None
+unfolding task_line task_of given read_as_number is_number all_digits no_leading_zero
 long-task at line h = rw (no_fields 4 line h)
 
 long-names : (line : List ℕ) → longest_line < length line → columns_of sheet_names longest_line line ≡ []
@@ -77,9 +76,9 @@ short line h = go (leb (length line) longest_line) refl
     go true e = leb-true (length line) longest_line e
     go false e = absurd (h (leb-false (length line) longest_line e))
 
-abbrev is_spelled : TaskLine → Bool
-is_spelled (Line.Spells t) = true
-is_spelled Line.Malformed = false
+abbrev is_spelled : Option Task → Bool
+is_spelled (Some t) = true
+is_spelled None = false
 
 -- ---- lines that are a sheet
 
@@ -90,12 +89,12 @@ unfolding gathered
 gathered-short at ts [] few h = (omega arith, omega arith)
 gathered-short at ts (l ∷ ls) few h = go (task_line at l) refl h (λ t. gathered-short at (ts ++ (t ∷ [])) ls)
   where
-    go : (line : TaskLine) → task_line at l ≡ line → 0 < length (gathered ts (line ∷ map (task_line at) ls))
+    go : (line : Option Task) → task_line at l ≡ line → 0 < length (gathered ts (line ∷ map (task_line at) ls))
         → ((t : Task) → length (ts ++ (t ∷ [])) ≤ most_tasks → 0 < length (gathered (ts ++ (t ∷ [])) (map (task_line at) ls))
         → (length (ts ++ (t ∷ [])) + length ls ≤ most_tasks) × (total ls ≤ (longest_line + 1) * length ls))
         → (length ts + suc (length ls) ≤ most_tasks) × (length l + 1 + total ls ≤ (longest_line + 1) * suc (length ls))
-    go Line.Malformed e k more = absurd (omega arith)
-    go (Line.Spells t) e k more = taken (ltb (length ts) most_tasks && not (occurs t.number (numbers_of ts))) refl k
+    go None e k more = absurd (omega arith)
+    go (Some t) e k more = taken (ltb (length ts) most_tasks && not (occurs t.number (numbers_of ts))) refl k
       where
         fits : length l ≤ longest_line
         fits = short l (λ p. true≢false (ap is_spelled (sym e ∙ long-task at l p)))

@@ -1,4 +1,5 @@
 -- Every task set is the tasks of some sheet: how it is written as one, and that the lines that were written read as its tasks.
+use Rattle.std.specs.Prelude.{Option, Some}
 use mathlib.Core.Path.{◌≡◌, refl, sym, ap, ap₂, ◌∙◌}
 use mathlib.Core.Bool.{true, false, not, ◌&&◌, and-eq-true_iff}
 use mathlib.Core.List.{List, [], ◌∷◌, ◌++◌, map, append-nil, append_assoc}
@@ -13,14 +14,12 @@ use Rattle.decimal.specs.Spelling.{spelling}
 use Rattle.decimal.specs.Reading.{largest}
 use Rattle.decimal.proofs.Laws.{spelling-length}
 use Rattle.decimal.proofs.RoundTrip.{reads-spelling}
-use Rattle.table.specs.Pieces.{onto, pieces, lines, same, free}
+use Rattle.table.specs.Pieces.{onto, pieces, lines, free}
 use Rattle.table.specs.Fields.{fields_of, place, places_of, all_stand, columns, columns_of}
 use Rattle.table.proofs.Laws.{first, others, pieces-begun, pieces-cut, lines-empty, lines-newline}
 use Rattle.taskset.specs.declared.Task.{Task}
 use Rattle.taskset.specs.Tasks.{most_tasks, last_core, occurs, all_differ, cores_exist, numbers_of, is_task_set}
-use Rattle.sheet.specs.declared.TaskLine.{TaskLine}
-use Rattle.sheet.specs.declared.TaskLine.TheVariants as Line
-use Rattle.sheet.specs.Sheet.{longest_line, sheet_names, last_task, task_of, task_line, gathered, tasks_below, tasks_of_lines, sheet_tasks}
+use Rattle.sheet.specs.Sheet.{longest_line, sheet_names, last_task, given, task_of, task_line, gathered, tasks_below, tasks_of_lines, sheet_tasks}
 use Rattle.sheet.proofs.LineLaws.{is-task}
 use Rattle.sheet.proofs.CardsWritten.{cards_written, cards-read, cards-within, cards-length, spelling-within, within, within-one, within_both, within_wider, within-free}
 
@@ -105,13 +104,17 @@ module _ (t : Task) (in-types : FieldsInTypes t) (core-exists : t.core ≤ last_
   unfolding fields_of
   line-fields = rw (le-leb (length (task_written t)) longest_line line-short, line-pieces)
 
-  line_read : task_line (0 ∷ 1 ∷ 2 ∷ 3 ∷ []) (task_written t) ≡ Line.Spells t
-  unfolding task_line task_of
+  line_read : task_line (0 ∷ 1 ∷ 2 ∷ 3 ∷ []) (task_written t) ≡ Some t
+  unfolding task_line task_of given
   line_read =
-      rw line-fields
-      (is-task _ _ _ _ t.number (reads-spelling t.number (omega (arith, in-types.number))) in-types.number t.core
-      (reads-spelling t.core (omega arith)) core-exists t.deadline (reads-spelling t.deadline in-types.deadline) in-types.deadline
-      t.cards (cards-read t.cards in-types.cards))
+      rw (
+        line-fields,
+        reads-spelling t.number (omega (arith, in-types.number)),
+        reads-spelling t.core (omega arith),
+        reads-spelling t.deadline in-types.deadline,
+        cards-read t.cards in-types.cards,
+      )
+      (is-task t.number t.core t.deadline t.cards in-types.number core-exists)
 
 -- ---- the lines of the sheet
 
@@ -129,11 +132,11 @@ tasks-lines (t ∷ ts) h e =
     lines-newline (task_written t) (lines_written ts) (within-free 32 57 10 (omega arith) (task_written t) (line-within t h.0 c.0))
     ∙ ap (λ (ls : List (List ℕ)). task_written t ∷ ls) (tasks-lines ts h.1 c.1)
 
-tasks-read : (ts : List Task) → InTypes ts → cores_exist ts ≡ true → map (task_line (0 ∷ 1 ∷ 2 ∷ 3 ∷ [])) (map task_written ts) ≡ map Line.Spells ts
+tasks-read : (ts : List Task) → InTypes ts → cores_exist ts ≡ true → map (task_line (0 ∷ 1 ∷ 2 ∷ 3 ∷ [])) (map task_written ts) ≡ map Some ts
 tasks-read [] h e = refl
 tasks-read (t ∷ ts) h e =
     let c = core-first t ts e in
-    ap₂ (λ (l : TaskLine) (ls : List TaskLine). l ∷ ls) (line_read t h.0 c.0) (tasks-read ts h.1 c.1)
+    ap₂ (λ (l : Option Task) (ls : List (Option Task)). l ∷ ls) (line_read t h.0 c.0) (tasks-read ts h.1 c.1)
 
 -- what is written is bytes
 lines-within : (ts : List Task) → InTypes ts → cores_exist ts ≡ true → within 0 255 (lines_written ts) ≡ true
@@ -146,7 +149,7 @@ lines-within (t ∷ ts) h e =
     (within-one 0 255 10 (lines_written ts) (omega arith) (omega arith) (lines-within ts h.1 c.1))
 
 names-read : columns_of sheet_names longest_line (ascii "task core deadline cards") ≡ 0 ∷ 1 ∷ 2 ∷ 3 ∷ []
-unfolding columns_of columns all_stand places_of place same fields_of pieces onto
+unfolding columns_of columns all_stand places_of place fields_of pieces onto
 names-read = refl
 
 -- ---- tasks whose numbers differ are gathered
@@ -165,7 +168,7 @@ not-before (x ∷ before) t ts e =
     rw (ne_eqb t.number x.number (λ q. eqb-false x.number t.number other (sym q)), not-before before t ts both.1)
 
 all-gathered : (before ts : List Task) → length before + length ts ≤ most_tasks → all_differ (numbers_of (before ++ ts)) ≡ true
-    → gathered before (map Line.Spells ts) ≡ before ++ ts
+    → gathered before (map Some ts) ≡ before ++ ts
 unfolding gathered
 all-gathered before [] few e = sym (append-nil before)
 all-gathered before (t ∷ ts) few e =

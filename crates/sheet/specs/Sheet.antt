@@ -1,17 +1,13 @@
 -- Which bytes are a job sheet (paper 2), and which tasks they are, in the sheet's order.
-use Rattle.std.specs.Prelude.{ℕ, suc, ◌+◌, ◌*◌, cond, not, ◌&&◌, List, [], ◌∷◌, ◌++◌, map, leb, ltb, length, get_or}
+use Rattle.std.specs.Str.{bytes_eq}
+use Rattle.std.specs.Prelude.{Option, None, Some, ℕ, suc, ◌+◌, ◌*◌, cond, not, ◌&&◌, List, [], ◌∷◌, ◌++◌, map, leb, ltb, length, get_or}
 use Rattle.decimal.specs.Bytes.{byte, ascii}
-use Rattle.decimal.specs.Reading.{largest, read_as_number}
-use Rattle.decimal.specs.declared.Number.{Number}
-use Rattle.decimal.specs.declared.Number.TheVariants as Read
+use Rattle.decimal.specs.Reading.{read_as_number}
 use Rattle.objset.specs.Objset.{most_objects, none, added}
-use Rattle.table.specs.Pieces.{pieces, lines, same}
+use Rattle.table.specs.Pieces.{pieces, lines}
 use Rattle.table.specs.Fields.{fields_of, columns_of}
 use Rattle.taskset.specs.declared.Task.{Task}
 use Rattle.taskset.specs.Tasks.{most_tasks, last_core, occurs, numbers_of}
-use Rattle.sheet.specs.declared.TaskLine.{TaskLine}
-use Rattle.sheet.specs.declared.TaskLine.TheVariants as Line
-use Rattle.sheet.specs.declared.CardList.{CardList}
 
 -- a line has at most 1,024 bytes
 abbrev pub longest_line : ℕ
@@ -32,55 +28,48 @@ last_task = 65535
 -- ---- cards: a comma list of different rising numbers or `-`
 
 -- the set of the cards that numbers are, each from `least` on, greater than the one before it, and one of the 64
-unfoldable pub rising : ℕ → ℕ → List Number → CardList
-rising least s [] = CardList.Cards s
-rising least s (Read.Value d ∷ ns) = cond (leb least d && ltb d most_objects) (rising (suc d) (added s d) ns) CardList.Malformed
-rising least s (Read.Malformed ∷ ns) = CardList.Malformed
+unfoldable pub rising : ℕ → ℕ → List (Option ℕ) → Option ℕ
+rising least s [] = Some s
+rising least s (Some d ∷ ns) = cond (leb least d && ltb d most_objects) (rising (suc d) (added s d) ns) None
+rising least s (None ∷ ns) = None
 
 -- the numbers of a comma list
-abbrev pub comma_list : List ℕ → List Number
+abbrev pub comma_list : List ℕ → List (Option ℕ)
 comma_list field = map read_as_number (pieces (byte ",") field)
 
 -- the cards that a field spells: `-` is none
-unfoldable pub card_list : List ℕ → CardList
-card_list field = cond (same field (ascii "-")) (CardList.Cards none) (rising 0 none (comma_list field))
+unfoldable pub card_list : List ℕ → Option ℕ
+card_list field = cond (bytes_eq field (ascii "-")) (Some none) (rising 0 none (comma_list field))
 
 -- ---- a line of a task
 
--- a number of at most so much: the line goes on with it, and is malformed where there is none
-unfoldable pub with_up_to : ℕ → Number → (ℕ → TaskLine) → TaskLine
-with_up_to most (Read.Value n) k = cond (leb n most) (k n) Line.Malformed
-with_up_to most Read.Malformed k = Line.Malformed
+-- what a field reads as: the line goes on with it, and is malformed where the field is
+unfoldable pub given : Option ℕ → (ℕ → Option Task) → Option Task
+given None k = None
+given (Some n) k = k n
 
--- cards: the line goes on with them, and is malformed where there are none
-unfoldable pub with_cards : CardList → (ℕ → TaskLine) → TaskLine
-with_cards (CardList.Cards s) k = k s
-with_cards CardList.Malformed k = Line.Malformed
+-- the task of a number, a core, a deadline and a set of cards; none where the number or the core is too large
+unfoldable pub spelled_task : ℕ → ℕ → ℕ → ℕ → Option Task
+spelled_task t c d s = cond (leb t last_task && leb c last_core) (Some (record { number = t; core = c; deadline = d; cards = s })) None
 
--- the task that four fields spell: a number, a core, a deadline, cards
-unfoldable pub spelled_task : Number → Number → Number → CardList → TaskLine
-spelled_task number core deadline cards =
-    with_up_to last_task number (λ t. with_up_to last_core core (λ c. with_up_to largest deadline (λ d. with_cards cards (λ s.
-    Line.Spells (record { number = t; core = c; deadline = d; cards = s })))))
-
--- the task that a line spells, the names standing in these columns; the columns are those of task, core, deadline and cards
-unfoldable pub task_of : List ℕ → List (List ℕ) → TaskLine
+-- the task that four fields spell, the names standing in these columns; the columns are those of task, core, deadline and cards
+unfoldable pub task_of : List ℕ → List (List ℕ) → Option Task
 task_of at fs =
-    spelled_task (read_as_number (get_or fs (get_or at 0 0) [])) (read_as_number (get_or fs (get_or at 1 0) [])) (read_as_number (get_or fs (get_or at 2 0) []))
-    (card_list (get_or fs (get_or at 3 0) []))
+    given (read_as_number (get_or fs (get_or at 0 0) [])) (λ t. given (read_as_number (get_or fs (get_or at 1 0) [])) (λ c.
+    given (read_as_number (get_or fs (get_or at 2 0) [])) (λ d. given (card_list (get_or fs (get_or at 3 0) [])) (λ s. spelled_task t c d s))))
 
 -- a line has four fields and at most 1,024 bytes
-unfoldable pub task_line : List ℕ → List ℕ → TaskLine
+unfoldable pub task_line : List ℕ → List ℕ → Option Task
 task_line at line = task_of at (fields_of longest_line 4 line)
 
 -- ---- a sheet: one line for each of 1 to 32 tasks, whose numbers differ
 
 -- the tasks of lines, after those that stand so far; none where a line spells no task, repeats a number, or is one too many
-unfoldable pub gathered : List Task → List TaskLine → List Task
+unfoldable pub gathered : List Task → List (Option Task) → List Task
 gathered ts [] = ts
-gathered ts (Line.Spells t ∷ ls) =
+gathered ts (Some t ∷ ls) =
     cond (ltb (length ts) most_tasks && not (occurs t.number (numbers_of ts))) (gathered (ts ++ (t ∷ [])) ls) []
-gathered ts (Line.Malformed ∷ ls) = []
+gathered ts (None ∷ ls) = []
 
 -- the tasks of the lines after the line of names; none where it is bad, and stands nowhere
 unfoldable pub tasks_below : List ℕ → List (List ℕ) → List Task

@@ -2,36 +2,24 @@
 ghost use Rattle.std.specs.Prelude.{◌≡◌};
 ghost use Rattle.sheet.specs.Sheet.{card_list};
 
-use crate::CardList;
-use decimal::Number;
 use objset::OBJECTS;
-use table::{piece_end, same};
 
 // The set that a field of cards spells.
-pub(crate) fn card_list(field: &[u8]) -> CardList
+pub(crate) fn card_list(field: &[u8]) -> Option<u64>
     ensures { result ≡ card_list field.now }
 {
-    let mut set = objset::empty();
-    if same(field, b"-") {
-        return CardList::Cards(set);
+    if field == b"-".as_slice() {
+        return Some(objset::EMPTY);
     }
+    let mut set = objset::EMPTY;
     let mut least = 0;
-    let mut from = 0;
-    while from <= field.len() {
-        let to = piece_end(field, from, b',');
-        let Number::Value(n) = decimal::read(&field[from..to]) else {
-            return CardList::Malformed;
-        };
-        let card = n as usize;
-        if card < least {
-            return CardList::Malformed;
-        }
-        if OBJECTS <= card {
-            return CardList::Malformed;
+    for number in field.split(|b| *b == b',') {
+        let card = decimal::read(number)? as usize;
+        if card < least || OBJECTS <= card {
+            return None;
         }
         set = objset::insert(set, card);
         least = card + 1;
-        from = to + 1;
     }
-    CardList::Cards(set)
+    Some(set)
 }

@@ -15,18 +15,3 @@ pub mod shipped;
 pub use lending::read_into;
 pub use listed::levels;
 pub use reading::LONGEST_SHEET;
-use taskset::Task;
-
-// What a line of a sheet spells: a task, or none.
-#[derive(Clone, Copy)]
-enum TaskLine {
-    Spells(Task),
-    Malformed,
-}
-
-// What stands in the field of the cards: a set of them, or none.
-#[derive(Clone, Copy)]
-enum CardList {
-    Cards(u64),
-    Malformed,
-}

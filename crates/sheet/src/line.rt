@@ -3,9 +3,6 @@ ghost use Rattle.std.specs.Prelude.{◌≡◌};
 ghost use Rattle.sheet.specs.Sheet.{spelled_task, task_line};
 
 use crate::cards::card_list;
-use crate::{CardList, TaskLine};
-use decimal::Number;
-use table::inside::part;
 use table::{MOST_FIELDS, cut};
 use taskset::{LAST_CORE, Task};
 
@@ -16,43 +13,28 @@ const LAST_TASK: u32 = 65_535;
 pub(crate) const LONGEST_LINE: usize = 1024;
 
 // The task that a line spells, the names task, core, deadline and cards standing at these places.
-pub(crate) fn task_line(at: [usize; MOST_FIELDS], line: &[u8]) -> TaskLine
+pub(crate) fn task_line(at: [usize; MOST_FIELDS], line: &[u8]) -> Option<Task>
     ensures { result ≡ task_line at line.now }
 {
-    let f = cut(line, LONGEST_LINE, 4);
-    let number = decimal::read(part(line, f, at[0]));
-    let core = decimal::read(part(line, f, at[1]));
-    let deadline = decimal::read(part(line, f, at[2]));
-    let cards = card_list(part(line, f, at[3]));
+    let fields = cut(line, LONGEST_LINE, 4)?;
+    let number = decimal::read(fields.part(line, at[0]))?;
+    let core = decimal::read(fields.part(line, at[1]))?;
+    let deadline = decimal::read(fields.part(line, at[2]))?;
+    let cards = card_list(fields.part(line, at[3]))?;
     spelled(number, core, deadline, cards)
 }
 
-// The task that four fields spell.
-fn spelled(number: Number, core: Number, deadline: Number, cards: CardList) -> TaskLine
+// The task of the values of four fields; none where the number or the core is too large.
+fn spelled(number: u32, core: u32, deadline: u32, cards: u64) -> Option<Task>
     ensures { result ≡ spelled_task number core deadline cards }
 {
-    let Number::Value(t) = number else {
-        return TaskLine::Malformed;
-    };
-    if LAST_TASK < t {
-        return TaskLine::Malformed;
+    if LAST_TASK < number || (LAST_CORE as u32) < core {
+        return None;
     }
-    let Number::Value(c) = core else {
-        return TaskLine::Malformed;
-    };
-    if (LAST_CORE as u32) < c {
-        return TaskLine::Malformed;
-    }
-    let Number::Value(d) = deadline else {
-        return TaskLine::Malformed;
-    };
-    let CardList::Cards(s) = cards else {
-        return TaskLine::Malformed;
-    };
-    TaskLine::Spells(Task {
-        number: t as u16,
-        core: c as u8,
-        deadline: d,
-        cards: s,
+    Some(Task {
+        number: number as u16,
+        core: core as u8,
+        deadline,
+        cards,
     })
 }

@@ -5,14 +5,14 @@ ghost use Rattle.taskset.specs.Ceilings.{RightLevels};
 ghost use Rattle.sheet.specs.Sheet.{sheet_tasks};
 
 use crate::lending::read_into;
-use taskset::{Levels, NO_TASK, TASKS};
+use taskset::{Levels, NotTasks, TASKS, Task};
 
-// The levels of the tasks of a sheet; refused 13, where the bytes are no sheet. The list has a place for each task that a sheet can have.
-pub fn levels(bytes: &[u8]) -> Levels
+// The levels of the tasks of a sheet; refused, where the bytes are no sheet. The list has a place for each task that a sheet can have.
+pub fn levels(bytes: &[u8]) -> Result<Levels, NotTasks>
     ensures rule { result ≡ levels_given (sheet_tasks bytes.now) }
     ensures paper { RightLevels (sheet_tasks bytes.now) result }
 {
-    let mut list = [NO_TASK; TASKS];
-    let filled = read_into(&mut list, bytes);
-    tasklist::levels(&list, filled.count)
+    let mut list = [Task::default(); TASKS];
+    let count = read_into(&mut list, bytes)?;
+    tasklist::levels(&list, count)
 }

@@ -3,7 +3,7 @@ ghost use Rattle.std.specs.Prelude.{◌≡◌, get_or};
 ghost use Rattle.taskset.specs.Levels.{no_level};
 ghost use Rattle.sheet.specs.Shipped.{shipped_sheet, shipped_levels};
 
-use taskset::{Level, NO_LEVEL};
+use taskset::Level;
 
 // How many bytes the sheet has.
 pub const BYTES: usize = 83;
@@ -67,10 +67,5 @@ pub fn levels() -> [Level; TASKS]
 pub fn level(place: usize) -> Level
     ensures { result ≡ get_or shipped_levels place no_level }
 {
-    let table = levels();
-    if place < TASKS {
-        table[place]
-    } else {
-        NO_LEVEL
-    }
+    levels().get(place).copied().unwrap_or_default()
 }

@@ -1,2 +1,2 @@
 pub mod ListLaws
-mod Halfway
+mod Copies

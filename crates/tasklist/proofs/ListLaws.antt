@@ -1,5 +1,5 @@
 -- What callers know of tasks in a list that they lend: which tasks have room, what `fill` leaves and answers, and that what was filled is taken back.
-use mathlib.Core.Path.{◌≡◌, refl, ◌∙◌, ap}
+use mathlib.Core.Path.{◌≡◌, refl, sym, ◌∙◌, ap}
 use Prim.Native.Nat.{ℕ, ◌≤◌, ◌<◌}
 use mathlib.Core.Logic.{dite}
 use native.Mathlib.Decide.{dec_le}
@@ -12,13 +12,19 @@ use lib.Seq.{take-append_seam, length-take-le}
 use borrow.Author.Tests.{lt-ltb, le-ltb, le-leb, lt-leb, ltb-true, leb-true}
 use Rattle.objset.proofs.Laws.{both_left, both_right}
 use Rattle.taskset.specs.declared.Task.{Task}
-use Rattle.tasklist.specs.declared.Filled.{Filled}
-use Rattle.taskset.specs.Tasks.{most_tasks, cores_exist, all_differ, numbers_of, is_task_set, packed, standing}
+use Rattle.taskset.specs.declared.NotTasks.{NotTasks}
+use Rattle.std.specs.Prelude.{Result, Ok, Err}
+use Rattle.std.specs.Result.{result_unwrap_or}
+use Rattle.taskset.specs.Tasks.{most_tasks, cores_exist, all_differ, numbers_of, is_task_set, packed, standing, not_tasks}
 use Rattle.taskset.proofs.TaskLaws.{standing-packed}
 use Rattle.tasklist.specs.Lists.{have_room, fill_given, filled_list, first_of}
 
-abbrev pub refused : Filled
-refused = record { count = 0; refusal = 13 }
+abbrev pub refused : Result ℕ NotTasks
+refused = Err not_tasks
+
+-- how many tasks were counted; 0 where they were refused
+abbrev pub counted : List Task → List Task → ℕ
+counted ts ys = result_unwrap_or (fill_given ts ys) 0
 
 -- ---- which tasks have room
 
@@ -41,7 +47,7 @@ module _ (ts ys : List Task) where
 
   -- ---- what is answered, and what the list then holds
 
-  pub fills : have_room ts ys ≡ true → fill_given ts ys ≡ record { count = length ts; refusal = 0 }
+  pub fills : have_room ts ys ≡ true → fill_given ts ys ≡ Ok (length ts)
   unfolding fill_given
   fills h = rw h refl
 
@@ -57,10 +63,10 @@ module _ (ts ys : List Task) where
   unfolding filled_list
   keeps-list h = rw h refl
 
-  pub few-counted : length ts ≤ most_tasks → (fill_given ts ys).count ≤ most_tasks
+  pub few-counted : length ts ≤ most_tasks → counted ts ys ≤ most_tasks
   few-counted h = go (have_room ts ys) refl
     where
-      go : (t : Bool) → have_room ts ys ≡ t → (fill_given ts ys).count ≤ most_tasks
+      go : (t : Bool) → have_room ts ys ≡ t → counted ts ys ≤ most_tasks
       go true e = rw (fills e) h
       go false e = rw (refuses e) (lit≤ tt)
 
@@ -99,7 +105,7 @@ first_back ts rest few = first-all (length ts) (ts ++ rest) few longer ∙ take-
     longer = rw (length-append ts rest) (omega arith)
 
 pub filled-back : (ts ys : List Task) → length ts ≤ most_tasks → length ts ≤ length ys
-    → first_of (fill_given ts ys).count (filled_list ts ys) ≡ ts
+    → first_of (counted ts ys) (filled_list ts ys) ≡ ts
 filled-back [] ys few enough =
     rw (refuses [] ys (none-refused [] ys few'), keeps-list [] ys (none-refused [] ys few')) (first-all 0 ys few enough)
   where
@@ -130,13 +136,13 @@ module _ (ts ys : List Task) (h : is_task_set ts ≡ true) (enough : length ts �
   has_room : have_room ts ys ≡ true
   has_room = room ts ys (ltb-true 0 (length ts) (both_left (ltb 0 (length ts)) (leb (length ts) most_tasks) few)) enough
 
-  pub sheet-answer : fill_given ts ys ≡ record { count = length ts; refusal = 0 }
+  pub sheet-answer : fill_given ts ys ≡ Ok (length ts)
   sheet-answer = fills ts ys has_room
 
   pub sheet-list : filled_list ts ys ≡ ts ++ drop (length ts) ys
   sheet-list = fills-list ts ys has_room
 
-  pub sheet-back : first_of (fill_given ts ys).count (filled_list ts ys) ≡ ts
+  pub sheet-back : first_of (counted ts ys) (filled_list ts ys) ≡ ts
   sheet-back = filled-back ts ys (leb-true (length ts) most_tasks (both_right (ltb 0 (length ts)) (leb (length ts) most_tasks) few)) enough
 
 -- there are no tasks, as of bytes that are no sheet
@@ -146,3 +152,12 @@ module _ (ys : List Task) where
 
   pub empty-keeps : filled_list [] ys ≡ ys
   empty-keeps = keeps-list [] ys (none-refused [] ys (lit≤ tt))
+
+-- tasks that a list has a place for are refused only where there are none
+pub none-filled : (ts ys : List Task) → length ts ≤ length ys → {e : NotTasks} → fill_given ts ys ≡ Err e → ts ≡ []
+none-filled [] ys enough h = refl
+none-filled (t ∷ ts) ys enough h =
+    absurd (no_answer (sym (fills (t ∷ ts) ys (room (t ∷ ts) ys (omega arith) enough)) ∙ h))
+  where
+    no_answer : {n : ℕ} {e : NotTasks} → Ok n ≡ Err e → ⊥
+    no_answer h = cc

@@ -13,81 +13,43 @@ ghost use Rattle.taskset.specs.Levels.{levels_given};
 ghost use Rattle.taskset.specs.Ceilings.{RightLevels};
 ghost use Rattle.tasklist.specs.Lists.{fill_given, filled_list, first_of};
 
-use taskset::{Groups, Levels, TASKS, Task, TaskSet, groups_of, levels_of};
+use taskset::{Groups, Levels, NotTasks, TASKS, Task, TaskSet, groups_of, levels_of};
 
-// How many tasks were put into a list; or a refusal, which is 0 where there is none.
-#[derive(Clone, Copy)]
-pub struct Filled {
-    pub count: usize,
-    pub refusal: u8,
-}
-
-// The task set's tasks are put into the first places of the list, and counted; or refused 13, where there are none or the list is shorter.
-pub fn fill(list: &mut [Task], set: TaskSet) -> Filled
+// The task set's tasks are put into the first places of the list, and counted; refused, where there are none or the list is shorter.
+pub fn fill(list: &mut [Task], set: TaskSet) -> Result<usize, NotTasks>
     ensures answer { result ≡ fill_given (standing set) list.old }
     ensures list { list.new ≡ filled_list (standing set) list.old }
 {
     let n = set.count;
-    let tasks = set.tasks;
-    let mut answer = Filled {
-        count: 0,
-        refusal: 13,
-    };
-    if 0 < n {
-        if n <= TASKS {
-            if n <= list.len() {
-                let mut i: usize = 0;
-                while i < n {
-                    list[i] = tasks[i];
-                    i = i + 1;
-                }
-                answer = Filled {
-                    count: n,
-                    refusal: 0,
-                };
-            }
-        }
+    if n == 0 || TASKS < n || list.len() < n {
+        return Err(NotTasks);
     }
-    answer
+    list[..n].copy_from_slice(&set.tasks[..n]);
+    Ok(n)
 }
 
 // The first n tasks of the list as a task set; the empty one, where the list is shorter or no task set has so many.
 pub fn taken(list: &[Task], n: usize) -> TaskSet
     ensures { result ≡ packed (first_of n list.now) }
 {
-    let mut tasks = [Task {
-        number: 0,
-        core: 0,
-        deadline: 0,
-        cards: objset::EMPTY,
-    }; TASKS];
-    let mut count: usize = 0;
-    if n <= TASKS {
-        if n <= list.len() {
-            let mut i: usize = 0;
-            while i < n {
-                tasks[i] = list[i];
-                i = i + 1;
-            }
-            count = n;
-        }
+    let mut tasks = [Task::default(); TASKS];
+    if TASKS < n || list.len() < n {
+        return TaskSet { tasks, count: 0 };
     }
-    TaskSet {
-        tasks: tasks,
-        count: count,
-    }
+    tasks[..n].copy_from_slice(&list[..n]);
+    TaskSet { tasks, count: n }
 }
 
-// The levels of the first n tasks of the list; refused 13, where they are not the tasks of a sheet.
-pub fn levels(list: &[Task], n: usize) -> Levels
+// The levels of the first n tasks of the list; refused, where they are not the tasks of a sheet.
+pub fn levels(list: &[Task], n: usize) -> Result<Levels, NotTasks>
     ensures rule { result ≡ levels_given (first_of n list.now) }
     ensures paper { RightLevels (first_of n list.now) result }
 {
     levels_of(taken(list, n))
 }
 
-// The contention groups of the first n tasks of the list; refused 13, where they are not the tasks of a sheet.
-pub fn groups(list: &[Task], n: usize) -> Groups
+// The contention groups of the first n tasks of the list; refused, where they are not the tasks of a sheet.
+pub fn groups(list: &[Task], n: usize) -> Result<Groups, NotTasks>
     ensures rule { result ≡ groups_given (first_of n list.now) }
     ensures paper { RightGroups (first_of n list.now) result }
 {

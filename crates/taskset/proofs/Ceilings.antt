@@ -1,7 +1,7 @@
 -- The levels are what paper 2 says. A transaction's is the highest task level in its group, 0 without cards: first of any tasks with the cards cs and
 -- any levels ls, by their places; then of the levels that are worked out, whoever hands them back.
 use mathlib.Core.Path.{◌≡◌, refl, sym, ap, subst, ◌∙◌}
-use mathlib.Core.Bool.{Bool, true, false}
+use mathlib.Core.Bool.{Bool, true, false, cond}
 use mathlib.Core.List.{List}
 use Prim.Native.Nat.{ℕ, ◌≤◌, ◌<◌}
 use native.Mathlib.Omega.{arith}
@@ -11,17 +11,19 @@ use Rattle.objset.specs.Words.{Words}
 use Rattle.objset.proofs.Laws.{has-none}
 use Rattle.taskset.specs.declared.Task.{Task}
 use Rattle.taskset.specs.declared.Level.{Level}
+use Rattle.std.specs.Prelude.{Result, Ok, Err}
 use Rattle.taskset.specs.declared.Levels.{Levels}
-use Rattle.taskset.specs.Tasks.{no_task, deadlines_of, cards_of, is_task_set}
+use Rattle.taskset.specs.declared.NotTasks.{NotTasks}
+use Rattle.taskset.specs.Tasks.{no_task, deadlines_of, cards_of, is_task_set, not_tasks}
 use Rattle.taskset.specs.Groups.{groups_of}
-use Rattle.taskset.specs.Levels.{task_levels, object_ceiling, transaction_levels, levels_of, no_level, levelled, not_levelled, levels_given}
+use Rattle.taskset.specs.Levels.{task_levels, object_ceiling, transaction_levels, levels_of, no_level, levelled, levels_given}
 use Rattle.taskset.specs.Ceilings.{CountAtLeast, AreLevels, RightLevels}
 use Rattle.taskset.specs.Chains.{Uses, UsesNone, Chain, alone, onward}
 use Rattle.taskset.proofs.ChainLaws.{and_then, back, end-within, end-uses}
 use Rattle.taskset.proofs.GroupLaws.{chain-meets, meets-chain, group-none, not-meeting, meeting-none}
 use Rattle.taskset.proofs.CeilingLaws.{highest-above, highest-one, highest-none, level-at}
 use Rattle.taskset.proofs.Counting.{count-at-least}
-use Rattle.taskset.proofs.LevelList.{levels-at, task-level-at, levels_long, is-levelled, not-levelled}
+use Rattle.taskset.proofs.LevelList.{levels-at, task-level-at, levels_long}
 
 module _ (cs ls : List ℕ) (words : Words cs) where
   abbrev level : ℕ → ℕ
@@ -98,15 +100,19 @@ module _ (ts : List Task) (words : Words (cards_of ts)) where
       transaction : (i : ℕ) → i < length ts → (level i).transaction ≡ get_or (transaction_levels (groups_of (cards_of ts)) levels) i 0
       transaction i l = ap (λ (x : Level). x.transaction) (is i l)
 
-  right-given : RightLevels ts (levels_given ts)
-  unfolding levelled not_levelled
-  right-given = go (is_task_set ts) refl
+  given-right : RightLevels ts (levels_given ts)
+  unfolding levels_given levelled
+  given-right = go (is_task_set ts)
     where
-      go : (b : Bool) → is_task_set ts ≡ b → RightLevels ts (levels_given ts)
-      go true valid = rw (is-levelled ts valid) (λ _.
-          (levels_long ts, are-levels _ (λ i l. get_or-append (levels_of ts) _ no_level i (omega (arith, l, levels_long ts)))))
-      go false refused = rw (not-levelled ts refused) (λ e. absurd (omega (arith, e)))
+      go : (b : Bool) → RightLevels ts (cond b (Ok (levelled (levels_of ts))) (Err not_tasks))
+      go true = (levels_long ts, are-levels _ (λ i l. get_or-append (levels_of ts) _ no_level i (omega (arith, l, levels_long ts))))
+      go false = tt
 
   -- what is answered by the rule keeps them
-  pub right-levels : (r : Levels) → r ≡ levels_given ts → (r ≡ levels_given ts) × RightLevels ts r
-  right-levels r e = (e, subst (RightLevels ts) (sym e) right-given)
+  pub right-levels : (r : Result Levels NotTasks) → r ≡ levels_given ts → RightLevels ts r
+  right-levels r e = subst (RightLevels ts) (sym e) given-right
+
+-- what is answered of a task set, and of what is none
+pub levels-given : (ts : List Task) (b : Bool) → b ≡ is_task_set ts → levels_given ts ≡ cond b (Ok (levelled (levels_of ts))) (Err not_tasks)
+unfolding levels_given
+levels-given ts b e = rw e refl

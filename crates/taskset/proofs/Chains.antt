@@ -2,7 +2,7 @@
 -- tasks, known by their places in the list of their cards: two are in one group as worked out if and only if a chain joins them. Past the end
 -- of the list there is no card, so a task there would be alone.
 use mathlib.Core.Path.{◌≡◌, refl, sym, ap, subst, ◌∙◌}
-use mathlib.Core.Bool.{Bool, true, false}
+use mathlib.Core.Bool.{Bool, true, false, cond}
 use mathlib.Core.List.{List}
 use Prim.Native.Nat.{ℕ, ◌<◌}
 use native.Mathlib.Omega.{arith}
@@ -10,9 +10,11 @@ use lib.ListN.{length, length-map, get_or, get_or-append}
 use Rattle.objset.specs.Objset.{has, none}
 use Rattle.objset.specs.Words.{Words}
 use Rattle.taskset.specs.declared.Task.{Task}
+use Rattle.std.specs.Prelude.{Result, Ok, Err}
 use Rattle.taskset.specs.declared.Groups.{Groups}
-use Rattle.taskset.specs.Tasks.{cards_of, is_task_set}
-use Rattle.taskset.specs.Groups.{groups_of, in_one_group, grouped, not_grouped, groups_given}
+use Rattle.taskset.specs.declared.NotTasks.{NotTasks}
+use Rattle.taskset.specs.Tasks.{cards_of, is_task_set, not_tasks}
+use Rattle.taskset.specs.Groups.{groups_of, in_one_group, grouped, groups_given}
 use Rattle.taskset.specs.Chains.{UsesNone, Shares, Chain, alone, onward, AreGroups, RightGroups}
 use Rattle.taskset.proofs.ChainLaws.{and_then, back, from-none}
 use Rattle.taskset.proofs.GroupLaws.{together, no_others, chain-has, has-chain, groups-length}
@@ -86,17 +88,22 @@ module _ (ts : List Task) (words : Words (cards_of ts)) where
       one-group : (i j : ℕ) → i < length ts → j < length ts → in_one_group gs i j ≡ in_one_group (groups_of cs) i j
       one-group i j l k = rw (same i l, same j k)
 
-  right-given : RightGroups ts (groups_given ts)
-  unfolding groups_given grouped not_grouped
-  right-given = go (is_task_set ts) refl
+  given-right : RightGroups ts (groups_given ts)
+  unfolding groups_given grouped
+  given-right = go (is_task_set ts)
     where
       long : length (groups_of cs) ≡ length ts
       long = groups-length cs ∙ length-map ts _
 
-      go : (b : Bool) → is_task_set ts ≡ b → RightGroups ts (groups_given ts)
-      go true valid = rw valid (λ _. (long, are-groups _ (λ i l. get_or-append (groups_of cs) _ none i (omega (arith, l, long)))))
-      go false refused = rw refused (λ e. absurd (omega (arith, e)))
+      go : (b : Bool) → RightGroups ts (cond b (Ok (grouped (groups_of cs))) (Err not_tasks))
+      go true = (long, are-groups _ (λ i l. get_or-append (groups_of cs) _ none i (omega (arith, l, long))))
+      go false = tt
 
   -- what is answered by the rule keeps it
-  pub right-groups : (r : Groups) → r ≡ groups_given ts → (r ≡ groups_given ts) × RightGroups ts r
-  right-groups r e = (e, subst (RightGroups ts) (sym e) right-given)
+  pub right-groups : (r : Result Groups NotTasks) → r ≡ groups_given ts → RightGroups ts r
+  right-groups r e = subst (RightGroups ts) (sym e) given-right
+
+-- what is answered of a task set, and of what is none
+pub groups-given : (ts : List Task) (b : Bool) → b ≡ is_task_set ts → groups_given ts ≡ cond b (Ok (grouped (groups_of (cards_of ts)))) (Err not_tasks)
+unfolding groups_given
+groups-given ts b e = rw e refl

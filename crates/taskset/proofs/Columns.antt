@@ -1,14 +1,13 @@
--- A row filled entry by entry: the first i entries are those of the list that it is to hold. A column: one number of each task.
-use mathlib.Core.Path.{◌≡◌, sym, ap, ◌∙◌}
+-- A row filled entry by entry: the first i entries are those of the list that it is to hold.
+use mathlib.Core.Path.{◌≡◌, refl, sym, ap, ◌∙◌}
 use mathlib.Core.List.{List, [], ◌∷◌, ◌++◌, map}
 use Prim.Native.Nat.{ℕ, zero, suc, ◌+◌, ◌-◌, ◌≤◌, ◌<◌}
 use native.Mathlib.Numerals.{add-one}
 use native.Mathlib.Nat.{zero-add}
 use native.Mathlib.Omega.{arith}
-use lib.ListN.{length, length-map, get_or, set, take, drop, replicate, get_or-map}
-use lib.Seq.{take-suc, take-suc-set, take_all, paste-suc}
-use Rattle.taskset.specs.declared.Task.{Task}
-use Rattle.taskset.specs.Tasks.{most_tasks, no_task}
+use lib.ListN.{length, length-append, length-drop, get_or, set, take, drop, replicate}
+use lib.Seq.{take-suc, take-suc-set, take_all, paste-suc, drop-cons, get_or_at, length-take-le}
+use Rattle.taskset.specs.Tasks.{most_tasks}
 
 module _ {A : Type 0} (whole : List A) (i : ℕ) where
   -- a turn of the loop
@@ -26,7 +25,34 @@ module _ {A : Type 0} (whole : List A) (i : ℕ) where
   pub row-all : (row : List A) → length whole ≤ i → take i row ≡ take i whole → take i row ≡ whole
   row-all row h e = e ∙ take_all i whole h
 
--- ---- a row of 32 entries that are fixed whole
+-- ---- a row filled over what it held
+
+module _ {A : Type 0} (blank : List A) where
+  -- the first i entries of a list, and past them what the row held
+  abbrev pub listed : ℕ → List A → List A
+  listed i whole = take i whole ++ drop i blank
+
+  -- a turn of the loop
+  pub listed_next : (whole row : List A) (i : ℕ) (v d : A) → i < length whole → i < length blank → v ≡ get_or whole i d → row ≡ listed i whole
+      → set row i v ≡ listed (i + 1) whole
+  listed_next whole row i v d h k e so_far =
+      ap (λ (r : List A). set r i v) so_far
+      ∙ ap (λ (y : A). set (listed i whole) i y) e
+      ∙ ap (λ (j : ℕ). set (take i whole ++ drop j blank) j (get_or whole i d)) (sym (zero-add i))
+      ∙ paste-suc blank 0 whole i d (omega arith) h
+      ∙ ap (λ (j : ℕ). take (suc i) whole ++ drop j blank) (zero-add (suc i))
+      ∙ ap (λ (j : ℕ). listed j whole) (sym (add-one i))
+
+  -- the entry whose turn it is, is as it was
+  pub listed-at : (whole row : List A) (i : ℕ) (d : A) → i < length whole → i < length blank → row ≡ listed i whole → get_or row i d ≡ get_or blank i d
+  listed-at whole row i d h k so_far =
+      ap (λ (r : List A). get_or r i d) (so_far ∙ ap (λ (r : List A). take i whole ++ r) (drop-cons blank i d k))
+      ∙ get_or_at (take i whole) (get_or blank i d) (drop (suc i) blank) d i (length-take-le i whole (omega arith))
+
+  pub listed-long : (whole : List A) (i : ℕ) → i ≤ length whole → i ≤ length blank → length (listed i whole) ≡ length blank
+  listed-long whole i h k = length-append (take i whole) (drop i blank) ∙ omega (arith, length-take-le i whole h, length-drop i blank)
+
+-- ---- a row of 32 entries that were all alike
 
 drop-same : {A : Type 0} (n m : ℕ) (x : A) → drop n (replicate m x) ≡ replicate (m - n) x
 drop-same zero m x = let e : m ≡ m - 0 = omega arith in ap (λ (k : ℕ). replicate k x) e
@@ -34,34 +60,14 @@ drop-same (suc n) zero x = let e : 0 ≡ 0 - suc n = omega arith in ap (λ (k : 
 drop-same (suc n) (suc m) x = let e : m - n ≡ suc m - suc n = omega arith in drop-same n m x ∙ ap (λ (k : ℕ). replicate k x) e
 
 module _ {A : Type 0} (x : A) where
-  -- the first i entries of a list, and x past them
-  abbrev pub listed : ℕ → List A → List A
-  listed i whole = take i whole ++ drop i (replicate most_tasks x)
-
-  -- a turn of the loop
-  pub listed_next : (whole row : List A) (i : ℕ) (v : A) → i < length whole → i < most_tasks → v ≡ get_or whole i x → row ≡ listed i whole
-      → set row i v ≡ listed (i + 1) whole
-  listed_next whole row i v h k e so_far =
-      let blank : List A = replicate most_tasks x in
-      ap (λ (r : List A). set r i v) so_far
-      ∙ ap (λ (y : A). set (listed i whole) i y) e
-      ∙ ap (λ (j : ℕ). set (take i whole ++ drop j blank) j (get_or whole i x)) (sym (zero-add i))
-      ∙ paste-suc blank 0 whole i x (omega arith) h
-      ∙ ap (λ (j : ℕ). take (suc i) whole ++ drop j blank) (zero-add (suc i))
-      ∙ ap (λ (j : ℕ). listed j whole) (sym (add-one i))
-
   -- after the last turn
-  pub listed-whole : (whole : List A) (n : ℕ) → length whole ≡ n → listed n whole ≡ whole ++ replicate (most_tasks - n) x
+  pub listed-whole : (whole : List A) (n : ℕ) → length whole ≡ n → listed (replicate most_tasks x) n whole ≡ whole ++ replicate (most_tasks - n) x
   listed-whole whole n e =
       ap (λ (r : List A). r ++ drop n (replicate most_tasks x)) (take_all n whole (omega arith))
       ∙ ap (λ (r : List A). whole ++ r) (drop-same n most_tasks x)
 
--- ---- a column
-
-module _ {A : Type 0} (f : Task → A) (ts : List Task) (i : ℕ) where
-  pub column-next : (row : List A) (v : A) → i < length row → i < length ts → v ≡ f (get_or ts i no_task) → take i row ≡ take i (map f ts)
-      → take (i + 1) (set row i v) ≡ take (i + 1) (map f ts)
-  column-next row v h k e = row_next (map f ts) i row v (f no_task) h (omega (arith, length-map ts f)) (e ∙ sym (get_or-map f ts i no_task))
-
-  pub column-all : (row : List A) → length ts ≤ i → take i row ≡ take i (map f ts) → take i row ≡ map f ts
-  column-all row h = row-all (map f ts) i row (omega (arith, length-map ts f))
+-- an entry of a list worked out entry by entry; what is read past its end does not matter
+pub map_at : {A B : Type 0} (f : A → B) (xs : List A) (i : ℕ) (d : A) (e : B) → i < length xs → get_or (map f xs) i e ≡ f (get_or xs i d)
+map_at f [] i d e l = absurd (omega arith)
+map_at f (x ∷ xs) zero d e l = refl
+map_at f (x ∷ xs) (suc i) d e l = map_at f xs i d e (omega arith)

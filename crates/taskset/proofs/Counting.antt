@@ -1,36 +1,24 @@
 -- Task levels, deadline by deadline: a different deadline is counted at its last place.
 use mathlib.Core.Path.{◌≡◌, refl, sym, ap, ◌∙◌}
-use mathlib.Core.Bool.{Bool, true, false, cond, ◌&&◌, ◌||◌, and-false}
-use mathlib.Core.List.{List, [], ◌∷◌}
-use Prim.Native.Nat.{ℕ, zero, suc, ◌+◌, ◌≤◌, ◌<◌, max}
+use mathlib.Core.Bool.{Bool, true, false, cond, ◌&&◌, ◌||◌, and-false, true≢false}
+use mathlib.Core.List.{List, [], ◌∷◌, map}
+use Prim.Native.Nat.{ℕ, suc, ◌+◌, ◌≤◌, ◌<◌, max}
 use native.Mathlib.Numerals.{add-one}
-use native.Mathlib.Nat.{max-eq_left, max-eq_right}
 use native.Mathlib.Omega.{arith}
 use lib.Dec.{eqb, leb}
 use lib.ListN.{length, get_or, drop, drop_of_length-le}
 use lib.Seq.{drop-cons}
-use borrow.Author.Tests.{le-leb, lt-leb, eqb-true}
+use borrow.Author.Tests.{eqb-true}
 use Rattle.objset.specs.Objset.{meeting}
 use Rattle.taskset.specs.Tasks.{occurs, all_differ}
 use Rattle.taskset.specs.Levels.{different, at_least, task_level, highest_of, highest}
-use Rattle.taskset.specs.Counted.{last_places}
+use Rattle.std.specs.Prelude.{Option, None, Some}
+use Rattle.std.specs.Option.{is_some, option_map, unwrap_or}
+use Rattle.std.specs.List.{count_by, filter, fold, reduce, zip}
+use Rattle.std.proofs.lemmas.List.Folds.{fold-map}
+use Rattle.std.proofs.lemmas.List.Recursion.{is_count_by}
+use Rattle.taskset.specs.Counted.{distinct}
 use Rattle.taskset.specs.Ceilings.{CountAtLeast}
-
--- ---- where a number is counted
-
-pub last-long : (ns : List ℕ) → length (last_places ns) ≡ length ns
-unfolding last_places
-last-long [] = refl
-last-long (n ∷ ns) = ap suc (last-long ns)
-
-last-from : (ns : List ℕ) (i : ℕ) → i < length ns → get_or (last_places ns) i 0 ≡ cond (occurs (get_or ns i 0) (drop (suc i) ns)) 0 1
-unfolding last_places
-last-from [] i h = absurd (omega arith)
-last-from (n ∷ ns) zero h = refl
-last-from (n ∷ ns) (suc i) h = last-from ns i (omega arith)
-
-pub last-at : (ns : List ℕ) (i : ℕ) → i < length ns → get_or (last_places ns) i 0 ≡ cond (occurs (get_or ns i 0) (drop (i + 1) ns)) 0 1
-last-at ns i h = rw (add-one i) (last-from ns i h)
 
 -- ---- the numbers that are at least d
 
@@ -50,10 +38,6 @@ module _ (d m : ℕ) where
   occurs-least (n ∷ ns) = least_first n ns (leb d n) refl (eqb m n) refl (occurs-least ns)
 
 -- ---- the different numbers of a list, one by one
-
-distinct : List ℕ → List ℕ
-distinct [] = []
-distinct (n ∷ ns) = cond (occurs n ns) (distinct ns) (n ∷ distinct ns)
 
 distinct-long : (ns : List ℕ) → length (distinct ns) ≡ different ns
 unfolding different distinct
@@ -97,64 +81,82 @@ count-at-least d ns = record {
 
 -- ---- what the loops count
 
-module _ (d : ℕ) (ns : List ℕ) (i : ℕ) (l : i < length ns) where
-  abbrev rest : ℕ
-  rest = different (at_least d (drop (i + 1) ns))
+-- the number at a place is counted there, unless it stands in a later place
+module _ (ns : List ℕ) (i : ℕ) (l : i < length ns) where
+  pub distinct-here : occurs (get_or ns i 0) (drop (i + 1) ns) ≡ false → distinct (drop i ns) ≡ get_or ns i 0 ∷ distinct (drop (i + 1) ns)
+  unfolding distinct
+  distinct-here e = rw (drop-cons ns i 0 l, rw (add-one i) at e, add-one i)
 
-  pub counted : d ≤ get_or ns i 0 → different (at_least d (drop i ns)) ≡ get_or (last_places ns) i 0 + rest
-  unfolding different at_least
-  counted h =
-      rw (drop-cons ns i 0 l, le-leb d (get_or ns i 0) h, occurs-least d (get_or ns i 0) (drop (suc i) ns), le-leb d (get_or ns i 0) h, last-at ns i l, add-one i)
-      (go (occurs (get_or ns i 0) (drop (suc i) ns)))
-    where
-      go : (t : Bool) → cond t (different (at_least d (drop (suc i) ns))) (suc (different (at_least d (drop (suc i) ns))))
-          ≡ cond t 0 1 + different (at_least d (drop (suc i) ns))
-      go true = omega arith
-      go false = omega arith
+  pub distinct-later : occurs (get_or ns i 0) (drop (i + 1) ns) ≡ true → distinct (drop i ns) ≡ distinct (drop (i + 1) ns)
+  unfolding distinct
+  distinct-later e = rw (drop-cons ns i 0 l, rw (add-one i) at e, add-one i)
 
-  pub not-counted : get_or ns i 0 < d → different (at_least d (drop i ns)) ≡ rest
-  unfolding different at_least
-  not-counted h = rw (drop-cons ns i 0 l, lt-leb d (get_or ns i 0) h, add-one i)
-
-pub none_left : (d : ℕ) (ns : List ℕ) (i : ℕ) → length ns ≤ i → different (at_least d (drop i ns)) ≡ 0
-unfolding different at_least
-none_left d ns i h = rw (drop_of_length-le ns h)
+pub none_left : (ns : List ℕ) (i : ℕ) → length ns ≤ i → distinct (drop i ns) ≡ []
+unfolding distinct
+none_left ns i h = rw (drop_of_length-le ns h)
 
 -- there are at most as many as places
-one_more : (t : Bool) (n m : ℕ) → n ≤ m → cond t n (suc n) ≤ suc m
-one_more true n m h = omega arith
-one_more false n m h = omega arith
+pub distinct-few : (ns : List ℕ) → length (distinct ns) ≤ length ns
+unfolding distinct
+distinct-few [] = omega arith
+distinct-few (n ∷ ns) = go (occurs n ns) (distinct-few ns)
+  where
+    go : (t : Bool) → length (distinct ns) ≤ length ns → length (cond t (distinct ns) (n ∷ distinct ns)) ≤ suc (length ns)
+    go true h = omega arith
+    go false h = omega arith
 
-few-first : (d n : ℕ) (ns : List ℕ) (t : Bool) → different (at_least d ns) ≤ length ns
-    → different (cond t (n ∷ at_least d ns) (at_least d ns)) ≤ suc (length ns)
-unfolding different
-few-first d n ns true h = one_more (occurs n (at_least d ns)) _ _ h
-few-first d n ns false h = omega arith
+-- those of them that are at least d are as many as the different numbers at least d
+count-at-least-d : (d : ℕ) (ns : List ℕ) → count_by (leb d) ns ≡ length (at_least d ns)
+unfolding at_least
+count-at-least-d d ns = sym (is_count_by (λ (ms : List ℕ). length (at_least d ms)) (leb d) refl (λ m ms. go m ms (leb d m)) ns)
+  where
+    go : (m : ℕ) (ms : List ℕ) (t : Bool) → length (cond t (m ∷ at_least d ms) (at_least d ms)) ≡ cond t (1 + length (at_least d ms)) (length (at_least d ms))
+    go m ms true = omega arith
+    go m ms false = refl
 
-pub few-different : (d : ℕ) (ns : List ℕ) → different (at_least d ns) ≤ length ns
-unfolding different at_least
-few-different d [] = omega arith
-few-different d (n ∷ ns) = few-first d n ns (leb d n) (few-different d ns)
+distinct-least : (d : ℕ) (ns : List ℕ) → length (at_least d (distinct ns)) ≡ different (at_least d ns)
+unfolding different at_least distinct
+distinct-least d [] = refl
+distinct-least d (n ∷ ns) = go (leb d n) refl (occurs n ns) refl (distinct-least d ns)
+  where
+    go : (t : Bool) → leb d n ≡ t → (q : Bool) → occurs n ns ≡ q → length (at_least d (distinct ns)) ≡ different (at_least d ns)
+        → length (at_least d (cond q (distinct ns) (n ∷ distinct ns))) ≡ different (cond t (n ∷ at_least d ns) (at_least d ns))
+    go true t true q e = rw (occurs-least d n ns, t, q) e
+    go true t false q e = rw (occurs-least d n ns, t, q) (ap suc e)
+    go false t true q e = e
+    go false t false q e = rw t e
 
--- ---- the highest level, from the last task to the first
+pub count-distinct : (d : ℕ) (ns : List ℕ) → count_by (leb d) (distinct ns) ≡ task_level ns d
+unfolding task_level
+count-distinct d ns = count-at-least-d d (distinct ns) ∙ distinct-least d ns
 
-module _ (g : ℕ) (gs ls : List ℕ) (i j : ℕ) (next : j + 1 ≡ i) (h : j < length gs) (k : j < length ls) where
-  abbrev above : ℕ
-  above = highest g (drop i gs) (drop i ls)
+-- ---- the highest level: of those whose groups have a card of this one, the highest that is met
 
-  by_group : highest g (drop j gs) (drop j ls) ≡ cond (meeting g (get_or gs j 0)) (max (get_or ls j 0) above) above
-  unfolding highest_of
-  by_group = rw (drop-cons gs j 0 h, drop-cons ls j 0 k, sym next, add-one j)
-
-  pub apart-keeps : meeting g (get_or gs j 0) ≡ false → highest g (drop j gs) (drop j ls) ≡ above
-  apart-keeps e = by_group ∙ rw e
-
-  pub lower-keeps : meeting g (get_or gs j 0) ≡ true → get_or ls j 0 ≤ above → highest g (drop j gs) (drop j ls) ≡ above
-  lower-keeps e l = by_group ∙ rw e (max-eq_right l)
-
-  pub higher-counts : meeting g (get_or gs j 0) ≡ true → above ≤ get_or ls j 0 → highest g (drop j gs) (drop j ls) ≡ get_or ls j 0
-  higher-counts e l = by_group ∙ rw e (max-eq_left l)
-
-pub highest-none : (g : ℕ) (gs ls : List ℕ) (i : ℕ) → length gs ≤ i → highest g (drop i gs) (drop i ls) ≡ 0
+pub highest-fold : (g : ℕ) (gs ls : List ℕ) (m : ℕ)
+    → fold (λ (a : ℕ) (p : ℕ × ℕ). max a p.1) m (filter (λ (p : ℕ × ℕ). meeting g p.0) (zip gs ls)) ≡ max m (highest g gs ls)
 unfolding highest_of
-highest-none g gs ls i h = rw (drop_of_length-le gs h)
+highest-fold g [] ls m = omega arith
+highest-fold g (s ∷ ss) [] m = omega arith
+highest-fold g (s ∷ ss) (l ∷ ls) m = go (meeting g s) (highest-fold g ss ls (max m l)) (highest-fold g ss ls m)
+  where
+    pairs : List (ℕ × ℕ)
+    pairs = filter (λ (p : ℕ × ℕ). meeting g p.0) (zip ss ls)
+
+    go : (b : Bool) → fold (λ (a : ℕ) (p : ℕ × ℕ). max a p.1) (max m l) pairs ≡ max (max m l) (highest g ss ls)
+        → fold (λ (a : ℕ) (p : ℕ × ℕ). max a p.1) m pairs ≡ max m (highest g ss ls)
+        → fold (λ (a : ℕ) (p : ℕ × ℕ). max a p.1) m (cond b ((s, l) ∷ pairs) pairs) ≡ max m (cond b (max l (highest g ss ls)) (highest g ss ls))
+    go true e f = e ∙ omega arith
+    go false e f = f
+
+fold-picked : (r : Option ℕ) (ls : List ℕ) → option_map (λ (x : ℕ). x) r ≡ reduce max ls → unwrap_or r 0 ≡ fold max 0 ls
+fold-picked None [] e = refl
+fold-picked None (l ∷ ls) e = absurd (true≢false (sym (ap is_some e)))
+fold-picked (Some x) [] e = absurd (true≢false (ap is_some e))
+fold-picked (Some x) (l ∷ ls) e = ap (λ (o : Option ℕ). unwrap_or o 0) e ∙ ap (λ (n : ℕ). fold max n ls) (omega arith)
+
+pub highest-picked : (g : ℕ) (gs ls : List ℕ) (r : Option ℕ)
+    → option_map (λ (x : ℕ). x) r ≡ reduce max (map (λ (p : ℕ × ℕ). p.1) (filter (λ (p : ℕ × ℕ). meeting g p.0) (zip gs ls)))
+    → unwrap_or r 0 ≡ highest g gs ls
+highest-picked g gs ls r e =
+    let pairs : List (ℕ × ℕ) = filter (λ (p : ℕ × ℕ). meeting g p.0) (zip gs ls) in
+    fold-picked r (map (λ (p : ℕ × ℕ). p.1) pairs) e ∙ fold-map max (λ (p : ℕ × ℕ). p.1) 0 pairs ∙ highest-fold g gs ls 0 ∙ omega arith

@@ -1,17 +1,23 @@
 -- Each turn of the loops that work out the groups, from the last task to the first: what was done from place i on is done from the place
 -- before it on. Then the answer.
-use mathlib.Core.Path.{◌≡◌, sym, ap, ◌∙◌}
-use mathlib.Core.Bool.{true, false}
+use mathlib.Core.Path.{◌≡◌, refl, sym, ap, ◌∙◌}
+use mathlib.Core.Bool.{Bool, true, false, cond}
 use mathlib.Core.List.{List, [], ◌∷◌, ◌++◌, append-nil}
 use Prim.Native.Nat.{ℕ, suc, ◌-◌, ◌≤◌, ◌<◌}
 use native.Mathlib.Omega.{arith}
-use lib.ListN.{length, get_or, set, take, drop, replicate, length-map, length-append, length-drop, drop_of_length-le}
+use lib.ListN.{length, get_or, set, take, drop, replicate, length-map, length-append, length-drop, length-replicate, drop_of_length-le}
 use lib.Seq.{take-length, drop-length, take-suc, drop-cons, append_snoc, length-take-le, take_all, take_at, drop_at, set_at, get_or_at}
 use Rattle.objset.specs.Objset.{none, joined, meeting}
-use Rattle.objset.proofs.Laws.{none-zero}
+use Rattle.std.specs.List.{filter, fold}
+use Rattle.std.specs.Prelude.{reverse}
+use Rattle.std.proofs.lemmas.Grind.{reverse_onto}
+use Rattle.std.proofs.lemmas.List.Elements.{filter-append}
+use Rattle.std.proofs.lemmas.List.Sums.{fold-append}
 use Rattle.taskset.specs.declared.Task.{Task}
-use Rattle.taskset.specs.Tasks.{most_tasks, cards_of, is_task_set}
-use Rattle.taskset.specs.Groups.{reached, replaced, with_task, groups_of, grouped, not_grouped, groups_given}
+use Rattle.taskset.specs.Tasks.{most_tasks, cards_of}
+use Rattle.taskset.specs.Groups.{reached, replaced, with_task, groups_of, grouped}
+use Rattle.objset.proofs.Laws.{none-zero}
+use Rattle.taskset.proofs.Columns.{listed, listed-whole}
 use Rattle.taskset.proofs.GroupLaws.{groups-length}
 
 module _ (xs : List ℕ) (i : ℕ) (first : 0 < i) (within : i ≤ length xs) where
@@ -42,35 +48,27 @@ module _ (xs : List ℕ) (i : ℕ) (first : 0 < i) (within : i ≤ length xs) wh
     pub last_set : (v : ℕ) → set (take i xs ++ rest) (i - 1) v ≡ take (i - 1) xs ++ (v ∷ rest)
     last_set v = ap (λ (l : List ℕ). set l (i - 1) v) split ∙ set_at (take (i - 1) xs) (get_or xs (i - 1) 0) rest v (i - 1) long
 
-module _ (c : ℕ) (gs : List ℕ) (i : ℕ) (first : 0 < i) (within : i ≤ length gs) where
-  pub reached-joins : meeting c (get_or gs (i - 1) 0) ≡ true → joined (get_or gs (i - 1) 0) (reached c (drop i gs)) ≡ reached c (drop (i - 1) gs)
-  unfolding reached
-  reached-joins m = rw (from gs i first within, m)
+-- the groups that a task's cards meet, joined from the last to the first
+pub reached-fold : (c : ℕ) (gs : List ℕ) → fold (λ (whole g : ℕ). joined g whole) c (filter (meeting c) (reverse gs)) ≡ reached c gs
+unfolding reached
+reached-fold c [] = refl
+reached-fold c (g ∷ gs) =
+    ap (λ (l : List ℕ). fold (λ (whole g : ℕ). joined g whole) c (filter (meeting c) l)) (reverse_onto gs g [])
+    ∙ ap (fold (λ (whole g : ℕ). joined g whole) c) (filter-append (meeting c) (reverse gs) (g ∷ []))
+    ∙ fold-append (λ (whole g : ℕ). joined g whole) c (filter (meeting c) (reverse gs)) (filter (meeting c) (g ∷ []))
+    ∙ go (meeting c g) (reached-fold c gs)
+  where
+    all : ℕ
+    all = fold (λ (whole g : ℕ). joined g whole) c (filter (meeting c) (reverse gs))
 
-  pub reached-passes : meeting c (get_or gs (i - 1) 0) ≡ false → reached c (drop i gs) ≡ reached c (drop (i - 1) gs)
-  unfolding reached
-  reached-passes m = rw (from gs i first within, m)
+    go : (b : Bool) → all ≡ reached c gs
+        → fold (λ (whole g : ℕ). joined g whole) all (cond b (g ∷ []) []) ≡ cond b (joined g (reached c gs)) (reached c gs)
+    go true e = ap (joined g) e
+    go false e = e
 
 -- before the first turn nothing is done
 pub still : (f : List ℕ → List ℕ) (xs : List ℕ) → f [] ≡ [] → xs ≡ take (length xs) xs ++ f (drop (length xs) xs)
 still f xs e = sym (rw (take-length xs, drop-length xs, e) (append-nil xs))
-
--- the groups replaced from place i on
-module _ (c whole : ℕ) (gs : List ℕ) (i : ℕ) (first : 0 < i) (within : i ≤ length gs) (now : List ℕ) (e : now ≡ take i gs ++ replaced c whole (drop i gs)) where
-  -- the group whose turn it is
-  group_at : get_or now (i - 1) 0 ≡ get_or gs (i - 1) 0
-  group_at = ap (λ (l : List ℕ). get_or l (i - 1) 0) e ∙ last-at gs i first within (replaced c whole (drop i gs))
-
-  pub replaced-turns : meeting c (get_or now (i - 1) 0) ≡ true → set now (i - 1) whole ≡ take (i - 1) gs ++ replaced c whole (drop (i - 1) gs)
-  unfolding replaced
-  replaced-turns m =
-      ap (λ (l : List ℕ). set l (i - 1) whole) e
-      ∙ last_set gs i first within (replaced c whole (drop i gs)) whole
-      ∙ rw (from gs i first within, rw group_at at m)
-
-  pub replaced-passes : meeting c (get_or now (i - 1) 0) ≡ false → now ≡ take (i - 1) gs ++ replaced c whole (drop (i - 1) gs)
-  unfolding replaced
-  replaced-passes m = e ∙ split gs i first within (replaced c whole (drop i gs)) ∙ rw (from gs i first within, rw group_at at m)
 
 -- the groups of the tasks from place i on, behind the cards of those before it
 pub groups_long : (cs : List ℕ) (i : ℕ) (now : List ℕ) → i ≤ length cs → now ≡ take i cs ++ groups_of (drop i cs) → length now ≡ length cs
@@ -110,19 +108,32 @@ module _ (cs : List ℕ) (i : ℕ) (first : 0 < i) (within : i ≤ length cs) (n
 
 -- ---- the answer
 
-module _ (ts : List Task) (n : ℕ) (long : length ts ≡ n) where
+module _ (ts : List Task) where
   -- the cards of the tasks in the first places of an array become their groups
-  pub groups-given : (row gs : List ℕ) → is_task_set ts ≡ true → row ≡ cards_of ts ++ replicate (most_tasks - n) none → gs ≡ groups_of (take n row)
-      → record { cards = gs ++ drop n row; count = n; refusal = 0 } ≡ groups_given ts
-  unfolding groups_given grouped
-  groups-given row gs valid e g =
-      let cards = length-map ts (λ (t : Task). t.cards) ∙ long in
-      let front : take n row ≡ cards_of ts = ap (take n) e ∙ take_at (cards_of ts) (replicate (most_tasks - n) none) n cards in
-      let back : drop n row ≡ replicate (most_tasks - n) none = ap (drop n) e ∙ drop_at (cards_of ts) (replicate (most_tasks - n) none) n cards in
+  pub groups-made : (row gs : List ℕ) → row ≡ listed (replicate most_tasks 0) (length ts) (cards_of ts) → gs ≡ groups_of (take (length ts) row)
+      → gs ++ drop (length ts) row ≡ (grouped (groups_of (cards_of ts))).cards
+  unfolding grouped
+  groups-made row gs e g =
+      let n : ℕ = length ts in
+      let cards = length-map ts (λ (t : Task). t.cards) in
+      let all : row ≡ cards_of ts ++ replicate (most_tasks - n) 0 = e ∙ listed-whole 0 (cards_of ts) n cards in
+      let front : take n row ≡ cards_of ts = ap (take n) all ∙ take_at (cards_of ts) (replicate (most_tasks - n) 0) n cards in
+      let back : drop n row ≡ replicate (most_tasks - n) 0 = ap (drop n) all ∙ drop_at (cards_of ts) (replicate (most_tasks - n) 0) n cards in
       let groups : gs ≡ groups_of (cards_of ts) = g ∙ ap groups_of front in
       let size : length (groups_of (cards_of ts)) ≡ n = groups-length (cards_of ts) ∙ cards in
-      rw (valid, back, groups, size)
+      rw (back, groups, size, none-zero)
 
-pub groups-refused : (ts : List Task) → is_task_set ts ≡ false → record { cards = replicate most_tasks 0; count = 0; refusal = 13 } ≡ groups_given ts
-unfolding groups_given not_grouped
-groups-refused ts e = rw (e, none-zero)
+  pub group-cards-front : take (length ts) (grouped (groups_of (cards_of ts))).cards ≡ groups_of (cards_of ts)
+  unfolding grouped
+  group-cards-front = take_at (groups_of (cards_of ts)) _ (length ts) (groups-length (cards_of ts) ∙ length-map ts (λ (t : Task). t.cards))
+
+  pub group-cards-long : length ts ≤ most_tasks → length (grouped (groups_of (cards_of ts))).cards ≡ most_tasks
+  unfolding grouped
+  group-cards-long h =
+      let long = groups-length (cards_of ts) ∙ length-map ts (λ (t : Task). t.cards) in
+      length-append (groups_of (cards_of ts)) _
+      ∙ omega (arith, long, length-replicate (most_tasks - length (groups_of (cards_of ts))) none)
+
+  pub grouped-made : (row : List ℕ) → row ≡ (grouped (groups_of (cards_of ts))).cards → record { cards = row; count = length ts } ≡ grouped (groups_of (cards_of ts))
+  unfolding grouped
+  grouped-made row e = rw (e, groups-length (cards_of ts) ∙ length-map ts (λ (t : Task). t.cards)) refl

@@ -1,20 +1,17 @@
 -- The list of levels, task by task, and where the loop that fills it stands.
 use mathlib.Core.Path.{◌≡◌, refl, sym, ap, ◌∙◌}
-use mathlib.Core.Bool.{true, false}
-use mathlib.Core.List.{List, [], ◌∷◌, ◌++◌, map}
+use mathlib.Core.List.{List, [], ◌∷◌, ◌++◌}
 use Prim.Native.Nat.{ℕ, zero, suc, ◌-◌, ◌<◌}
 use native.Mathlib.Omega.{arith}
 use lib.ListN.{length, length-map, get_or, replicate, get_or-map}
 use Rattle.objset.proofs.Laws.{none-zero}
 use Rattle.taskset.specs.declared.Task.{Task}
 use Rattle.taskset.specs.declared.Level.{Level}
-use Rattle.taskset.specs.Tasks.{most_tasks, no_task, deadlines_of, cards_of, is_task_set, standing}
+use Rattle.taskset.specs.Tasks.{most_tasks, no_task, deadlines_of, cards_of}
 use Rattle.taskset.specs.Groups.{groups_of}
-use Rattle.taskset.specs.Levels.{task_level, task_levels, highest, transaction_levels, side_by_side, levels_of, no_level, levelled, not_levelled, levels_given}
-use Rattle.taskset.specs.declared.TaskSet.{TaskSet}
+use Rattle.taskset.specs.Levels.{task_level, task_levels, highest, transaction_levels, side_by_side, levels_of, no_level, levelled}
 use Rattle.taskset.specs.Counted.{Columns}
-use Rattle.taskset.proofs.Columns.{listed, listed-whole}
-use Rattle.taskset.proofs.TaskLaws.{standing-long, standing-at}
+use Rattle.taskset.proofs.Columns.{listed, listed-whole, map_at}
 use Rattle.taskset.proofs.GroupLaws.{groups-length}
 use Rattle.taskset.proofs.CeilingLaws.{level-at}
 
@@ -35,12 +32,6 @@ side-long [] ls ms p q = refl
 side-long (t ∷ ts) [] ms p q = absurd (omega arith)
 side-long (t ∷ ts) (l ∷ ls) [] p q = absurd (omega arith)
 side-long (t ∷ ts) (l ∷ ls) (m ∷ ms) p q = ap suc (side-long ts ls ms (omega arith) (omega arith))
-
--- an entry of a list worked out entry by entry; what is read past its end does not matter
-map_at : (f : ℕ → ℕ) (ns : List ℕ) (i x : ℕ) → i < length ns → get_or (map f ns) i x ≡ f (get_or ns i x)
-map_at f [] i x l = absurd (omega arith)
-map_at f (n ∷ ns) zero x l = refl
-map_at f (n ∷ ns) (suc i) x l = map_at f ns i x (omega arith)
 
 module _ (ts : List Task) where
   abbrev groups : List ℕ
@@ -69,35 +60,23 @@ module _ (ts : List Task) where
   pub task-level-at : (i : ℕ) → i < length ts → get_or levels i 0 ≡ task_level (deadlines_of ts) (get_or ts i no_task).deadline
   unfolding task_levels
   task-level-at i l =
-      map_at (task_level (deadlines_of ts)) (deadlines_of ts) i 0 (omega (arith, l, length-map ts (λ (t : Task). t.deadline)))
+      map_at (task_level (deadlines_of ts)) (deadlines_of ts) i 0 0 (omega (arith, l, length-map ts (λ (t : Task). t.deadline)))
       ∙ ap (task_level (deadlines_of ts)) (get_or-map (λ (t : Task). t.deadline) ts i no_task)
 
 -- the levels that are made of a task, a group and a level
-pub level-made : (s : TaskSet) (gs ls : List ℕ) → Columns s gs ls → length s.tasks ≡ most_tasks → (i : ℕ) → i < s.count → (m : ℕ)
-    → m ≡ highest (get_or gs i 0) gs ls
-    → record { number = (get_or s.tasks i no_task).number; task = get_or ls i 0; transaction = m } ≡ get_or (levels_of (standing s)) i no_level
-level-made s gs ls columns size i l m e =
+pub level-made : (ts : List Task) (gs ls : List ℕ) → Columns ts gs ls → (i : ℕ) → i < length ts → (m : ℕ) → m ≡ highest (get_or gs i 0) gs ls
+    → record { number = (get_or ts i no_task).number; task = get_or ls i 0; transaction = m } ≡ get_or (levels_of ts) i no_level
+level-made ts gs ls columns i l m e =
     let level : m ≡ get_or (transaction_levels gs ls) i 0 = e ∙ ap (λ (x : ℕ). highest (get_or gs i x) gs ls) (sym none-zero) ∙ sym (level-at gs ls i) in
-    rw (level, columns.by_group, columns.by_level, sym (standing-at s columns.few i l))
-    (sym (levels-at (standing s) i (omega (arith, standing-long s size columns.few))))
-
--- ---- a task set is levelled, another list is refused
-
-module _ (ts : List Task) where
-  pub is-levelled : is_task_set ts ≡ true → levels_given ts ≡ levelled (levels_of ts)
-  unfolding levels_given
-  is-levelled e = rw e
-
-  pub not-levelled : is_task_set ts ≡ false → levels_given ts ≡ not_levelled
-  unfolding levels_given
-  not-levelled e = rw e
+    rw (level, columns.by_group, columns.by_level) (sym (levels-at ts i l))
 
 -- a list that is filled whole
-pub filled-whole : (ls : List Level) (n : ℕ) → length ls ≡ n → listed no_level n ls ≡ (levelled ls).list
+pub filled-whole : (ts : List Task) → listed (replicate most_tasks no_level) (length ts) (levels_of ts) ≡ (levelled (levels_of ts)).list
 unfolding levelled
-filled-whole ls n e = listed-whole no_level ls n e ∙ ap (λ (k : ℕ). ls ++ replicate (most_tasks - k) no_level) (sym e)
+filled-whole ts =
+    listed-whole no_level (levels_of ts) (length ts) (levels_long ts)
+    ∙ ap (λ (k : ℕ). levels_of ts ++ replicate (most_tasks - k) no_level) (sym (levels_long ts))
 
-pub levelled-made : (ls list : List Level) (n : ℕ) → list ≡ (levelled ls).list → n ≡ length ls
-    → record { list = list; count = n; refusal = 0 } ≡ levelled ls
+pub levelled-made : (ts : List Task) (list : List Level) → list ≡ (levelled (levels_of ts)).list → record { list = list; count = length ts } ≡ levelled (levels_of ts)
 unfolding levelled
-levelled-made ls list n e size = rw (e, size)
+levelled-made ts list e = rw (e, levels_long ts) refl

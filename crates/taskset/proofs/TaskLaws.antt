@@ -1,18 +1,20 @@
 -- Which tasks are a task set, test by test; the tasks that stand in one by value.
 use mathlib.Core.Path.{◌≡◌, refl, sym, ap, ◌∙◌}
 use mathlib.Core.Bool.{Bool, true, false, ◌&&◌, true≢false}
-use mathlib.Core.List.{List, [], map}
-use Prim.Native.Nat.{ℕ, ◌+◌, ◌-◌, ◌≤◌, ◌<◌}
-use native.Mathlib.Numerals.{add-one}
+use mathlib.Core.List.{List, [], ◌∷◌, map}
+use Prim.Native.Nat.{ℕ, ◌-◌, ◌≤◌, ◌<◌}
 use native.Mathlib.Omega.{arith}
 use lib.Dec.{leb, ltb}
-use lib.ListN.{length, length-map, length-take, get_or, take, drop, drop_of_length-le, replicate}
-use lib.Seq.{take-append_seam, drop-cons, length-take-le, get_or-take}
-use borrow.Author.Tests.{le-leb, lt-leb, lt-ltb, leb-true, leb-false}
+use lib.ListN.{length, length-map, length-take, get_or, take, replicate}
+use lib.Seq.{take-append_seam, length-take-le, get_or-take}
+use borrow.Author.Tests.{le-leb, lt-leb, lt-ltb, leb-true, leb-false, ltb-true}
+use Rattle.std.specs.List.{list_all}
+use Rattle.std.specs.Prelude.{Result, Ok, Err, IsErr}
+use Rattle.taskset.specs.declared.NotTasks.{NotTasks}
 use Rattle.objset.proofs.Laws.{both_left, both_right}
 use Rattle.taskset.specs.declared.Task.{Task}
 use Rattle.taskset.specs.declared.TaskSet.{TaskSet}
-use Rattle.taskset.specs.Tasks.{most_tasks, last_core, cores_exist, all_differ, numbers_of, is_task_set, no_task, packed, standing}
+use Rattle.taskset.specs.Tasks.{most_tasks, last_core, cores_exist, all_differ, numbers_of, is_task_set, no_task, packed, standing, not_tasks}
 
 -- ---- the tasks that stand
 
@@ -43,21 +45,6 @@ pub standing-packed : (ts : List Task) → length ts ≤ most_tasks → standing
 unfolding standing packed
 standing-packed ts h = rw (le-leb (length ts) most_tasks h) (take-append_seam ts (replicate (most_tasks - length ts) no_task))
 
--- ---- the cores
-
-module _ (ts : List Task) (i : ℕ) where
-  pub core-not : i < length ts → last_core < (get_or ts i no_task).core → cores_exist (drop i ts) ≡ false
-  unfolding cores_exist
-  core-not h l = rw (drop-cons ts i no_task h, lt-leb (get_or ts i no_task).core last_core l)
-
-  pub core-next : i < length ts → (get_or ts i no_task).core ≤ last_core → cores_exist (drop i ts) ≡ cores_exist (drop (i + 1) ts)
-  unfolding cores_exist
-  core-next h l = rw (drop-cons ts i no_task h, le-leb (get_or ts i no_task).core last_core l, add-one i)
-
-  pub core-end : length ts ≤ i → cores_exist (drop i ts) ≡ true
-  unfolding cores_exist
-  core-end h = rw (drop_of_length-le ts h)
-
 -- ---- all tests
 
 and-false : (t : Bool) → (t && false) ≡ false
@@ -68,7 +55,23 @@ pub none-set : is_task_set [] ≡ false
 unfolding is_task_set
 none-set = refl
 
+-- the cores, as the iterator's test of each task
+pub cores-all : (ts : List Task) → list_all (λ (t : Task). leb t.core last_core) ts ≡ cores_exist ts
+unfolding cores_exist
+cores-all [] = refl
+cores-all (t ∷ ts) = ap (λ (b : Bool). leb t.core last_core && b) (cores-all ts)
+
 module _ (ts : List Task) where
+  pub set-sized : (0 < length ts → length ts ≤ most_tasks → ⊥) → is_task_set ts ≡ false
+  unfolding is_task_set
+  set-sized h = go (ltb 0 (length ts)) refl (leb (length ts) most_tasks) refl
+    where
+      go : (a : Bool) → ltb 0 (length ts) ≡ a → (b : Bool) → leb (length ts) most_tasks ≡ b
+          → ((a && b) && (cores_exist ts && all_differ (numbers_of ts))) ≡ false
+      go false p b q = refl
+      go true p false q = refl
+      go true p true q = absurd (h (ltb-true 0 (length ts) p) (leb-true (length ts) most_tasks q))
+
   pub cores-not-set : cores_exist ts ≡ false → is_task_set ts ≡ false
   unfolding is_task_set
   cores-not-set e = rw e (and-false (ltb 0 (length ts) && leb (length ts) most_tasks))
@@ -91,3 +94,8 @@ set-most ts e =
     leb-true (length ts) most_tasks
     (both_right (ltb 0 (length ts)) (leb (length ts) most_tasks)
     (both_left (ltb 0 (length ts) && leb (length ts) most_tasks) (cores_exist ts && all_differ (numbers_of ts)) e))
+
+-- there is one refusal
+pub refused : {A : Type 0} (r : Result A NotTasks) → IsErr r → r ≡ Err not_tasks
+refused (Ok x) e = absurd (true≢false (sym e))
+refused (Err x) e = refl

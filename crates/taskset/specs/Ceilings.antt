@@ -1,9 +1,10 @@
 -- Levels as paper 2 says them: 'A task's level is the count of different deadlines at least its own; a transaction's level is the highest task level in
 -- its group, 0 without cards' (source 002, definitions 33 to 35). Tasks are known by their places.
-use Rattle.std.specs.Prelude.{◌≡◌, true, ◌&&◌, List, ℕ, ◌≤◌, ◌<◌, leb, length, get_or}
+use Rattle.std.specs.Prelude.{◌≡◌, true, ◌&&◌, List, ℕ, ◌≤◌, ◌<◌, leb, length, get_or, Result, IfOk}
 use Rattle.taskset.specs.declared.Task.{Task}
 use Rattle.taskset.specs.declared.Level.{Level}
 use Rattle.taskset.specs.declared.Levels.{Levels}
+use Rattle.taskset.specs.declared.NotTasks.{NotTasks}
 use Rattle.taskset.specs.Tasks.{no_task, occurs, all_differ, deadlines_of, cards_of}
 use Rattle.taskset.specs.Levels.{no_level}
 use Rattle.taskset.specs.Chains.{Uses, UsesNone, Chain}
@@ -30,5 +31,5 @@ pub record AreLevels (ts : List Task) (level : ℕ → Level) : Type 0 where
   pub without_cards : (i : ℕ) → i < length ts → UsesNone (cards_of ts) i → (level i).transaction ≡ 0
 
 -- an answer that is no refusal has the levels of the tasks, in their order
-abbrev pub RightLevels : List Task → Levels → Type 0
-RightLevels ts r = r.refusal ≡ 0 → (r.count ≡ length ts) × AreLevels ts (λ i. get_or r.list i no_level)
+abbrev pub RightLevels : List Task → Result Levels NotTasks → Type 0
+RightLevels ts r = IfOk r (λ (l : Levels). (l.count ≡ length ts) × AreLevels ts (λ i. get_or l.list i no_level))

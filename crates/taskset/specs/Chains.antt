@@ -1,9 +1,10 @@
 -- Groups as paper 2 says them: 'Two tasks that use a common card are in one group, and so on through chains; no others are' (source 002, definition
 -- 24: any two are connected by a path of the contention graph). Tasks are known by their places; `cs` has the cards of each.
-use Rattle.std.specs.Prelude.{◌≡◌, true, false, List, ℕ, ◌<◌, length, get_or}
+use Rattle.std.specs.Prelude.{◌≡◌, true, false, List, ℕ, ◌<◌, length, get_or, Result, IfOk}
 use Rattle.objset.specs.Objset.{has, none}
 use Rattle.taskset.specs.declared.Task.{Task}
 use Rattle.taskset.specs.declared.Groups.{Groups}
+use Rattle.taskset.specs.declared.NotTasks.{NotTasks}
 use Rattle.taskset.specs.Tasks.{cards_of}
 use Rattle.taskset.specs.Groups.{in_one_group}
 
@@ -39,5 +40,5 @@ pub record AreGroups (ts : List Task) (gs : List ℕ) : Type 0 where
       → (j : ℕ) × (j < length ts) × Chain (cards_of ts) i j × Uses (cards_of ts) j d
 
 -- an answer that is no refusal has the groups of the tasks, one for each
-abbrev pub RightGroups : List Task → Groups → Type 0
-RightGroups ts r = r.refusal ≡ 0 → (r.count ≡ length ts) × AreGroups ts r.cards
+abbrev pub RightGroups : List Task → Result Groups NotTasks → Type 0
+RightGroups ts r = IfOk r (λ (g : Groups). (g.count ≡ length ts) × AreGroups ts g.cards)

@@ -1,11 +1,12 @@
 -- The preemption levels of a task set (source 002, 6.3.1, definitions 33 to 35), worked out. Ceilings.antt has paper 2's sentences as they are;
 -- what is worked out is proved to keep them.
-use Rattle.std.specs.Prelude.{ℕ, suc, ◌-◌, max, Bool, cond, List, [], ◌∷◌, ◌++◌, map, leb, length, replicate}
+use Rattle.std.specs.Prelude.{ℕ, suc, ◌-◌, max, Bool, cond, List, [], ◌∷◌, ◌++◌, map, leb, length, replicate, Result, Ok, Err}
 use Rattle.objset.specs.Objset.{has, meeting}
 use Rattle.taskset.specs.declared.Task.{Task}
 use Rattle.taskset.specs.declared.Level.{Level}
 use Rattle.taskset.specs.declared.Levels.{Levels}
-use Rattle.taskset.specs.Tasks.{most_tasks, occurs, deadlines_of, cards_of, is_task_set}
+use Rattle.taskset.specs.declared.NotTasks.{NotTasks}
+use Rattle.taskset.specs.Tasks.{most_tasks, occurs, deadlines_of, cards_of, is_task_set, not_tasks}
 use Rattle.taskset.specs.Groups.{groups_of}
 
 -- ---- task levels
@@ -67,14 +68,10 @@ levels_of ts =
 abbrev pub no_level : Level
 no_level = record { number = 0; task = 0; transaction = 0 }
 
--- levels in the first places of an array, zeros past them, and no refusal
+-- levels in the first places of an array, zeros past them
 unfoldable pub levelled : List Level → Levels
-levelled ls = record { list = ls ++ replicate (most_tasks - length ls) no_level; count = length ls; refusal = 0 }
+levelled ls = record { list = ls ++ replicate (most_tasks - length ls) no_level; count = length ls }
 
--- refused 13: these are the tasks of no sheet
-unfoldable pub not_levelled : Levels
-not_levelled = record { list = replicate most_tasks no_level; count = 0; refusal = 13 }
-
--- what a list of tasks is answered
-unfoldable pub levels_given : List Task → Levels
-levels_given ts = cond (is_task_set ts) (levelled (levels_of ts)) not_levelled
+-- what a list of tasks is answered; refused where it is no task set
+unfoldable pub levels_given : List Task → Result Levels NotTasks
+levels_given ts = cond (is_task_set ts) (Ok (levelled (levels_of ts))) (Err not_tasks)

@@ -2,6 +2,7 @@
 use Rattle.std.specs.Prelude.{ℕ, ◌-◌, Bool, true, false, cond, not, ◌&&◌, ◌||◌, List, [], ◌∷◌, ◌++◌, map, eqb, leb, ltb, length, take, replicate}
 use Rattle.taskset.specs.declared.Task.{Task}
 use Rattle.taskset.specs.declared.TaskSet.{TaskSet}
+use Rattle.taskset.specs.declared.NotTasks.{NotTasks}
 
 -- a sheet has 1 to 32 tasks
 abbrev pub most_tasks : ℕ
@@ -52,3 +53,11 @@ packed ts = record { tasks = ts ++ replicate (most_tasks - length ts) no_task; c
 -- the tasks that stand in the first places; none where the count is greater than the array
 unfoldable pub standing : TaskSet → List Task
 standing s = cond (leb s.count most_tasks) (take s.count s.tasks) []
+
+-- the refusal of what is no task set
+abbrev pub not_tasks : NotTasks
+not_tasks = record {}
+
+-- refusal 13: these are the tasks of no sheet
+abbrev pub not_tasks_number : ℕ
+not_tasks_number = 13

@@ -1,76 +1,67 @@
 // The contention groups of a task set (paper 2: groups): for each task the cards of its group, worked out from the last task to the first.
-ghost use Rattle.std.specs.Prelude.{◌≡◌};
-ghost use Rattle.taskset.specs.Tasks.{standing};
-ghost use Rattle.taskset.specs.Groups.{reached, replaced, groups_of, groups_given};
+ghost use Rattle.std.specs.Prelude.{◌≡◌, ◌≤◌, length};
+ghost use Rattle.taskset.specs.Tasks.{most_tasks, cards_of, standing};
+ghost use Rattle.taskset.specs.Groups.{reached, replaced, groups_of, grouped, groups_given};
 ghost use Rattle.taskset.specs.Chains.{RightGroups};
 
-use crate::tasks::{cards_of, is_task_set};
-use crate::{Groups, TASKS, TaskSet};
+use crate::tasks::tasks_of;
+use crate::{Groups, NotTasks, TASKS, Task, TaskSet};
 
-// The groups of the tasks of a set, or refusal 13 where they are the tasks of no sheet.
-pub fn groups_of(set: TaskSet) -> Groups
+// The groups of the tasks of a set; refused where they are the tasks of no sheet.
+pub fn groups_of(set: TaskSet) -> Result<Groups, NotTasks>
     ensures rule { result ≡ groups_given (standing set) }
     ensures paper { RightGroups (standing set) result }
 {
-    if is_task_set(set) {
-        let n = set.count;
-        let mut cards = cards_of(set);
-        join_groups(&mut cards[..n]);
-        Groups {
-            cards,
-            count: n,
-            refusal: 0,
-        }
-    } else {
-        Groups {
-            cards: [objset::EMPTY; TASKS],
-            count: 0,
-            refusal: 13,
-        }
+    let tasks = tasks_of(&set)?;
+    Ok(Groups {
+        cards: group_cards(tasks),
+        count: tasks.len(),
+    })
+}
+
+// For each task the cards of its group, in the first places; no cards past them.
+pub(crate) fn group_cards(tasks: &[Task]) -> [u64; TASKS]
+    requires { length tasks.now ≤ most_tasks }
+    ensures { result ≡ (grouped (groups_of (cards_of tasks.now))).cards }
+{
+    let mut cards = [objset::EMPTY; TASKS];
+    for (i, task) in tasks.iter().enumerate() {
+        cards[i] = task.cards;
     }
+    join_groups(&mut cards[..tasks.len()]);
+    cards
 }
 
 // A task's cards, and those of each group that they meet.
 fn reach(groups: &[u64], cards: u64) -> u64
     ensures { result ≡ reached cards groups.now }
 {
-    let mut whole = cards;
-    let mut i = groups.len();
-    while 0 < i {
-        i -= 1;
-        let group = groups[i];
-        if objset::meets(cards, group) {
-            whole = objset::union(group, whole);
-        }
-    }
-    whole
+    groups
+        .iter()
+        .rev()
+        .filter(|group| objset::meets(cards, **group))
+        .fold(cards, |whole, group| objset::union(*group, whole))
 }
 
 // Makes each group that a task's cards meet the whole.
 fn replace(groups: &mut [u64], cards: u64, whole: u64)
     ensures { groups.new ≡ replaced cards whole groups.old }
 {
-    let mut i = groups.len();
-    while 0 < i {
-        i -= 1;
-        let old = groups[i];
-        if objset::meets(cards, old) {
-            groups[i] = whole;
+    for group in groups.iter_mut() {
+        if objset::meets(cards, *group) {
+            *group = whole;
         }
     }
 }
 
 // Lent the cards of each task, leaves the cards of its group there.
-pub(crate) fn join_groups(groups: &mut [u64])
+fn join_groups(groups: &mut [u64])
     ensures { groups.new ≡ groups_of groups.old }
 {
-    let mut i = groups.len();
-    while 0 < i {
-        let next = i;
-        i -= 1;
+    for i in (0..groups.len()).rev() {
         let cards = groups[i];
-        let whole = reach(&groups[next..], cards);
-        replace(&mut groups[next..], cards, whole);
+        let whole = reach(&groups[i + 1..], cards);
+        replace(&mut groups[i + 1..], cards, whole);
         groups[i] = whole;
     }
 }

@@ -1,117 +1,82 @@
-// The levels of a task set. Each different deadline is counted at the last place where it stands, so these places are found once; then
-// a task's level is how many of them have a deadline at least its own. The functions beneath `levels_of` ask that the lists they are lent
-// are equally long and of at most 32 entries.
-ghost use Rattle.std.specs.Prelude.{◌≡◌, ◌≤◌, length};
-ghost use Rattle.taskset.specs.Tasks.{most_tasks, standing};
+// The levels of a task set. The different deadlines are found once; then a task's level is how many of them are at least its own.
+ghost use Rattle.std.specs.Prelude.{◌≡◌, ◌≤◌, ◌-◌, ◌++◌, leb, count_by, length, take, replicate};
+ghost use Rattle.taskset.specs.Tasks.{most_tasks, deadlines_of, standing};
 ghost use Rattle.taskset.specs.Levels.{task_level, task_levels, highest, levels_of, levelled, levels_given};
 ghost use Rattle.taskset.specs.Ceilings.{RightLevels};
-ghost use Rattle.taskset.specs.Counted.{last_places, Columns};
+ghost use Rattle.taskset.specs.Counted.{distinct, Columns};
 
-use crate::contention::join_groups;
-use crate::tasks::{cards_of, deadlines_of, is_among, is_task_set};
-use crate::{Level, Levels, TASKS, TaskSet};
+use crate::contention::group_cards;
+use crate::tasks::tasks_of;
+use crate::{Level, Levels, NotTasks, TASKS, Task, TaskSet};
 
-// A place where no level stands.
-pub const NO_LEVEL: Level = Level {
-    number: 0,
-    task: 0,
-    transaction: 0,
-};
-
-// The levels of the tasks of a set, or refusal 13 where they are the tasks of no sheet.
-pub fn levels_of(set: TaskSet) -> Levels
+// The levels of the tasks of a set; refused where they are the tasks of no sheet.
+pub fn levels_of(set: TaskSet) -> Result<Levels, NotTasks>
     ensures rule { result ≡ levels_given (standing set) }
     ensures paper { RightLevels (standing set) result }
 {
-    if is_task_set(set) {
-        let n = set.count;
-        let deadlines = deadlines_of(set);
-        let mut groups = cards_of(set);
-        join_groups(&mut groups[..n]);
-        let mut levels = [0u8; TASKS];
-        task_levels(&deadlines[..n], &mut levels[..n]);
-        let list = side_by_side(set, &groups[..n], &levels[..n]);
-        Levels {
-            list,
-            count: n,
-            refusal: 0,
-        }
-    } else {
-        Levels {
-            list: [NO_LEVEL; TASKS],
-            count: 0,
-            refusal: 13,
-        }
-    }
+    let tasks = tasks_of(&set)?;
+    let count = tasks.len();
+    let groups = group_cards(tasks);
+    let levels = task_levels(tasks);
+    let list = side_by_side(tasks, &groups[..count], &levels[..count]);
+    Ok(Levels { list, count })
 }
 
-// The task level and the transaction level of each task.
-fn side_by_side(set: TaskSet, groups: &[u64], levels: &[u8]) -> [Level; TASKS]
-    requires { Columns set groups.now levels.now }
-    ensures { result ≡ (levelled (levels_of (standing set))).list }
+// The task level and the transaction level of each task; zeros past them.
+fn side_by_side(tasks: &[Task], groups: &[u64], levels: &[u8]) -> [Level; TASKS]
+    requires { Columns tasks.now groups.now levels.now }
+    ensures { result ≡ (levelled (levels_of tasks.now)).list }
 {
-    let n = set.count;
-    let mut list = [NO_LEVEL; TASKS];
-    let mut i = 0;
-    while i < n {
-        let t = set.tasks[i];
-        let task = levels[i];
-        let transaction = highest(groups[i], groups, levels);
+    let mut list = [Level::default(); TASKS];
+    for (i, task) in tasks.iter().enumerate() {
         list[i] = Level {
-            number: t.number,
-            task,
-            transaction,
+            number: task.number,
+            task: levels[i],
+            transaction: highest(groups[i], groups, levels),
         };
-        i += 1;
     }
     list
 }
 
-// The level of each task, by their deadlines.
-fn task_levels(deadlines: &[u32], levels: &mut [u8])
-    requires { (length deadlines.now ≤ most_tasks) × (length levels.old ≡ length deadlines.now) }
-    ensures { levels.new ≡ task_levels deadlines.now }
+// The level of each task, by their deadlines, in the first places; zeros past them.
+fn task_levels(tasks: &[Task]) -> [u8; TASKS]
+    requires { length tasks.now ≤ most_tasks }
+    ensures { result ≡ task_levels (deadlines_of tasks.now) ++ replicate (most_tasks - length tasks.now) 0 }
 {
-    let n = deadlines.len();
-    let mut last = [0u8; TASKS];
-    mark_last(deadlines, &mut last[..n]);
-    let mut i = 0;
-    while i < n {
-        levels[i] = level(deadlines, &last[..n], deadlines[i]);
-        i += 1;
+    let mut deadlines = [0u32; TASKS];
+    let n = different(tasks, &mut deadlines);
+    let mut levels = [0u8; TASKS];
+    for (i, task) in tasks.iter().enumerate() {
+        levels[i] = level(&deadlines[..n], task.deadline);
     }
+    levels
 }
 
-// Marks with 1 the last place of each different deadline, and with 0 every other place.
-fn mark_last(deadlines: &[u32], last: &mut [u8])
-    requires { length last.old ≡ length deadlines.now }
-    ensures { last.new ≡ last_places deadlines.now }
+// Puts the different deadlines into the first places, and counts them.
+fn different(tasks: &[Task], deadlines: &mut [u32]) -> usize
+    requires { length tasks.now ≤ length deadlines.old }
+    ensures count { result ≡ length (distinct (deadlines_of tasks.now)) }
+    ensures list { take result deadlines.new ≡ distinct (deadlines_of tasks.now) }
 {
-    let mut i = 0;
-    while i < deadlines.len() {
-        if is_among(deadlines[i], deadlines, i + 1) {
-            last[i] = 0;
-        } else {
-            last[i] = 1;
+    let mut n = 0;
+    for (i, task) in tasks.iter().enumerate() {
+        if !tasks[i + 1..]
+            .iter()
+            .any(|later| task.deadline == later.deadline)
+        {
+            deadlines[n] = task.deadline;
+            n += 1;
         }
-        i += 1;
     }
+    n
 }
 
-// How many different deadlines are at least d.
-fn level(deadlines: &[u32], last: &[u8], d: u32) -> u8
-    requires { (length deadlines.now ≤ most_tasks) × (last.now ≡ last_places deadlines.now) }
-    ensures { result ≡ task_level deadlines.now d }
+// How many of the deadlines are at least d.
+fn level(deadlines: &[u32], d: u32) -> u8
+    requires { length deadlines.now ≤ most_tasks }
+    ensures { result ≡ count_by (leb d) deadlines.now }
 {
-    let mut count: u8 = 0;
-    let mut i = 0;
-    while i < deadlines.len() {
-        if d <= deadlines[i] {
-            count += last[i];
-        }
-        i += 1;
-    }
-    count
+    deadlines.iter().filter(|deadline| d <= **deadline).count() as u8
 }
 
 // The highest level of the tasks whose groups have a card of this one.
@@ -119,15 +84,11 @@ fn highest(group: u64, groups: &[u64], levels: &[u8]) -> u8
     requires { length levels.now ≡ length groups.now }
     ensures { result ≡ highest group groups.now levels.now }
 {
-    let mut most: u8 = 0;
-    let mut i = groups.len();
-    while 0 < i {
-        i -= 1;
-        if objset::meets(group, groups[i]) {
-            if most < levels[i] {
-                most = levels[i];
-            }
-        }
-    }
-    most
+    groups
+        .iter()
+        .zip(levels)
+        .filter(|(other, _)| objset::meets(group, **other))
+        .map(|(_, level)| *level)
+        .max()
+        .unwrap_or(0)
 }

@@ -1,30 +1,25 @@
--- `taken` meets its contract: a turn takes one task more; what the tests come to, `Halfway` has.
-use mathlib.Core.Path.{◌≡◌, ap, ◌∙◌}
-use mathlib.Core.List.{List}
-use native.Mathlib.Omega.{arith}
-use lib.ListN.{set, get_or}
+-- `tasklist::taken` meets its contract.
+use Rattle.std.proofs.Common.{rules, ◌≡◌, ap, ◌∙◌, ◌++◌, List, take, drop, replicate, arith}
 use Rattle.taskset.specs.declared.Task.{Task}
-use Rattle.taskset.specs.Tasks.{no_task}
-use Rattle.tasklist.proofs.Halfway.{halfway, halfway-next, no_tasks, made, takes, too_many, too_short}
+use Rattle.taskset.specs.Tasks.{most_tasks, no_task}
+use Rattle.tasklist.proofs.Copies.{made, takes, too_many, too_short}
 use Rattle.tasklist.proofs.taken.Goals as goal
+use Rattle.tasklist.proofs.taken.Goals.{then-n-gt-TASKS-via-then-n-gt-TASKS, then-n-gt-TASKS-via-else-n-gt-TASKS+then-list-n}
 
-pub loop-i-preserved : goal.loop-i-preserved
-loop-i-preserved c =
+pub returns-then-n-gt-TASKS : goal.returns-then-n-gt-TASKS
+returns-then-n-gt-TASKS c =
+    let blank : c.default-tasks.result ≡ no_task = search rules in
+    ap (λ (t : Task). made 0 (replicate most_tasks t)) blank
+    ∙ elim c.then-n-gt-TASKS.branch [
+      | then-n-gt-TASKS-via-then-n-gt-TASKS w ↦ too_many c.args.n c.args.list.now (omega arith)
+      | then-n-gt-TASKS-via-else-n-gt-TASKS+then-list-n w ↦ too_short c.args.n c.args.list.now (omega arith)
+    ]
+
+pub returns : goal.returns
+returns c =
+    let n = c.args.n in
     let ys = c.args.list.now in
-    let i = c.loop-i.i in (
-      omega arith,
-      ap (λ (zs : List Task). set zs i (get_or ys i no_task)) c.loop-i.invariant.1
-          ∙ halfway-next i no_tasks ys no_task (omega arith) (omega arith),
-    )
-
-pub returns-after-loop-i : goal.returns-after-loop-i
-returns-after-loop-i c =
-    let ys = c.args.list.now in
-    let last : c.loop-i.i ≡ c.args.n = omega arith in
-    ap (made c.args.n) (c.loop-i.invariant.1 ∙ ap (halfway no_tasks ys) last) ∙ takes c.args.n ys (omega arith) (omega arith)
-
-pub returns-else-n-list : goal.returns-else-n-list
-returns-else-n-list c = too_short c.args.n c.args.list.now (omega arith)
-
-pub returns-else-n-le-TASKS : goal.returns-else-n-le-TASKS
-returns-else-n-le-TASKS c = too_many c.args.n c.args.list.now (omega arith)
+    let blank : c.default-tasks.result ≡ no_task = search rules in
+    ap (λ (ts : List Task). made n (ts ++ drop n (replicate most_tasks c.default-tasks.result))) c.copy_from_slice.ensures.after
+    ∙ ap (λ (t : Task). made n (take n ys ++ drop n (replicate most_tasks t))) blank
+    ∙ takes n ys (omega arith) (omega arith)

@@ -1,88 +1,74 @@
--- `sheet::cards::card_list` meets its contract. The loop's invariant: the set so far and the numbers from `from` on make the field's set. The
--- measure is what is left of the field.
-use mathlib.Core.Path.{sym, ap, ◌∙◌}
-use mathlib.Core.List.{List}
-use Prim.Native.Nat.{ℕ, ◌+◌, ◌≤◌}
-use lib.ListN.{length}
+-- `sheet::cards::card_list` meets its contract.
+use Rattle.std.proofs.Common.{rules, tests, ◌≡◌, sym, ap, ◌∙◌, ℕ, ◌+◌, ◌≤◌, ◌<◌, List, Some, map, length, get_or, drop, arith}
+use lib.Dec.{eqb}
+use Rattle.std.proofs.lemmas.List.{length_push}
+use Rattle.std.proofs.lemmas.Iterator.Splits.{YieldsList-from_slice_split}
+use Rattle.std.proofs.lemmas.Iterator.Consumers.{YieldsList-turn, YieldsList-end}
 use Rattle.decimal.specs.Bytes.{byte}
-use Rattle.table.proofs.PieceEnds.{not-before, inside}
-use Rattle.sheet.specs.declared.CardList.TheVariants as CardList
-use Rattle.sheet.specs.Sheet.{rising}
-use Rattle.sheet.proofs.CardLaws.{is-dash, is-list, numbers_from, no_number, not-rising, no-card, one-card, all-cards}
-use native.Mathlib.Omega.{arith}
+use Rattle.decimal.specs.Reading.{read_as_number}
+use Rattle.objset.proofs.Laws.{none-zero}
+use Rattle.table.specs.Pieces.{pieces}
+use Rattle.sheet.specs.Sheet.{rising, comma_list}
+use Rattle.sheet.proofs.CardLaws.{is-dash, is-list, split-pieces, no_number, not-rising, no-card, one-card, all-cards}
 use Rattle.sheet.proofs.cards.card_list.Goals as goal
-use Rattle.sheet.proofs.cards.card_list.Goals.{After-piece_end-to}
+use Rattle.sheet.proofs.cards.card_list.Goals.{In-Some, then-card-least-via-then-card-least, then-card-least-via-else-card-least+then-card-ge-OBJECTS}
 
-pub returns-then-same : goal.returns-then-same
-returns-then-same c =
-    sym (is-dash c.args.field.now (sym c.same.ensures ∙ c.if-same.true) ∙ ap CardList.Cards (sym c.empty-set.ensures))
+pub returns-then-eq : goal.returns-then-eq
+returns-then-eq c =
+    ap Some (sym none-zero) ∙ sym (is-dash c.args.field.now (sym (rw c.as_slice.ensures at c.eq.ensures) ∙ c.if-eq.true))
 
-pub loop-from-init : goal.loop-from-init
-loop-from-init c =
-    let field = c.args.field.now in (
-      omega arith,
-      omega arith,
-      ap (λ (s : ℕ). rising 0 s (numbers_from field 0)) c.empty-set.ensures
-          ∙ sym (is-list field (sym c.same.ensures ∙ c.if-same.false)),
-    )
+pub loop-number-init : goal.loop-number-init
+loop-number-init c =
+    let field = c.args.field.now in
+    record {
+      small = omega arith;
+      rest = ap (λ (s : ℕ). rising 0 s (comma_list field)) (sym none-zero)
+          ∙ sym (is-list field (sym (rw c.as_slice.ensures at c.eq.ensures) ∙ c.if-eq.false));
+    }
 
--- the field, and where its next number stands
-abbrev F : After-piece_end-to → List ℕ
-F c = c.args.field.now
+-- the piece whose turn it is
+turn : (c : In-Some) → (length c.loop-number.yielded < length (pieces (byte ",") c.args.field.now))
+    × (c.in-Some.number.now ≡ get_or (pieces (byte ",") c.args.field.now) (length c.loop-number.yielded) c.in-Some.number.now)
+turn c =
+    let field = c.args.field.now in
+    rw (split-pieces 44 field) at (YieldsList-turn (YieldsList-from_slice_split _ (λ (b : ℕ). eqb b 44) field (cc) (cc) (cc) (λ x b q k. search (rules, tests))) c.loop-number.yielded _ c.loop-number.yielded_by _ _ c.in-Some.number c.in-Some.is c.next.ensures.steps)
 
-starts : (c : After-piece_end-to) → c.loop-from.from ≤ length (F c)
-starts c = omega arith
-
-within : (c : After-piece_end-to) → (c.loop-from.from ≤ c.piece_end-to.result) × (c.piece_end-to.result ≤ length (F c))
-within c =
-    let from = c.loop-from.from in (
-      not-before (byte ",") (F c) from c.piece_end-to.result c.piece_end-to.ensures,
-      inside (byte ",") (F c) from c.piece_end-to.result c.piece_end-to.ensures (starts c),
-    )
-
-pub slice_bounds-read-count : goal.slice_bounds-read-count
-slice_bounds-read-count c = (within (goal.at.slice_bounds-read-count c).After-piece_end-to).0
-
-pub slice_bounds-read-start : goal.slice_bounds-read-start
-slice_bounds-read-start c = (within (goal.at.slice_bounds-read-start c).After-piece_end-to).0
-
-pub slice_bounds-read-end : goal.slice_bounds-read-end
-slice_bounds-read-end c = (within (goal.at.slice_bounds-read-end c).After-piece_end-to).1
-
-pub returns-in_default : goal.returns-in_default
-returns-in_default c =
-    let at = c.loop-from in
-    sym (no_number (F (goal.at.returns-in_default c).After-piece_end-to) at.least at.set at.from c.piece_end-to.result c.piece_end-to.ensures (starts (goal.at.returns-in_default c).After-piece_end-to) (sym c.read.ensures ∙ c.in_default.is)) ∙ at.invariant.2
+pub returns-in_err-card : goal.returns-in_err-card
+returns-in_err-card c =
+    let at = c.loop-number in
+    c.from_residual.ensures
+    ∙ sym (no_number c.args.field.now (length at.yielded) c.in-Some.number.now (turn (goal.at.returns-in_err-card c).In-Some) at.least at.set (sym c.read.ensures ∙ c.in_err-card.was))
+    ∙ at.invariant.rest
 
 pub returns-then-card-least : goal.returns-then-card-least
 returns-then-card-least c =
-    let at = c.loop-from in
-    sym (not-rising (F (goal.at.returns-then-card-least c).After-piece_end-to) at.least at.set at.from c.piece_end-to.result c.piece_end-to.ensures (starts (goal.at.returns-then-card-least c).After-piece_end-to) c.in-Value.n (sym c.read.ensures ∙ c.in-Value.is) c.if-card-least.true) ∙ at.invariant.2
+    let at = c.loop-number in
+    let read = sym c.read.ensures ∙ c.in_ok-card.was in
+    let here = turn (goal.at.returns-then-card-least c).In-Some in
+    sym (elim c.then-card-least.branch [
+      | then-card-least-via-then-card-least w ↦ not-rising c.args.field.now (length at.yielded) c.in-Some.number.now here at.least at.set c.in_ok-card.field-0 read w.if-card-least.true
+      | then-card-least-via-else-card-least+then-card-ge-OBJECTS w ↦ no-card c.args.field.now (length at.yielded) c.in-Some.number.now here at.least at.set c.in_ok-card.field-0 read w.if-card-ge-OBJECTS.true
+    ])
+    ∙ at.invariant.rest
 
-pub returns-then-card-ge-OBJECTS : goal.returns-then-card-ge-OBJECTS
-returns-then-card-ge-OBJECTS c =
-    let at = c.loop-from in
-    sym (no-card (F (goal.at.returns-then-card-ge-OBJECTS c).After-piece_end-to) at.least at.set at.from c.piece_end-to.result c.piece_end-to.ensures (starts (goal.at.returns-then-card-ge-OBJECTS c).After-piece_end-to) c.in-Value.n (sym c.read.ensures ∙ c.in-Value.is) c.if-card-ge-OBJECTS.true) ∙ at.invariant.2
-
-pub overflow_add-from : goal.overflow_add-from
-overflow_add-from c = record { fits = omega (arith, within (goal.at.overflow_add-from c).After-piece_end-to) }
-
-pub loop-from-smaller : goal.loop-from-smaller
-loop-from-smaller c = omega (arith, within (goal.at.loop-from-smaller c).After-piece_end-to)
-
-pub loop-from-preserved : goal.loop-from-preserved
-loop-from-preserved c =
-    let at = c.loop-from in
-    let d = c.in-Value.n in (
-      omega (arith, within (goal.at.loop-from-preserved c).After-piece_end-to),
-      omega arith,
-      ap (λ (s : ℕ). rising (d + 1) s (numbers_from (F (goal.at.loop-from-preserved c).After-piece_end-to) (c.piece_end-to.result + 1))) c.insert-set.ensures
-          ∙ sym (one-card (F (goal.at.loop-from-preserved c).After-piece_end-to) at.least at.set at.from c.piece_end-to.result c.piece_end-to.ensures (starts (goal.at.loop-from-preserved c).After-piece_end-to) d
-          (sym c.read.ensures ∙ c.in-Value.is) (omega arith) (omega arith))
-          ∙ at.invariant.2,
-    )
+pub loop-number-preserved : goal.loop-number-preserved
+loop-number-preserved c =
+    let at = c.loop-number in
+    let d = c.in_ok-card.field-0 in
+    let i = length at.yielded in
+    let ps = pieces (byte ",") c.args.field.now in
+    record {
+      small = omega arith;
+      rest = ap (λ (k : ℕ). rising (d + 1) c.insert-set.result (map read_as_number (drop k ps))) (length_push at.yielded c.in-Some.number)
+          ∙ ap (λ (s : ℕ). rising (d + 1) s (map read_as_number (drop (i + 1) ps))) c.insert-set.ensures
+          ∙ sym (one-card c.args.field.now i c.in-Some.number.now (turn (goal.at.loop-number-preserved c).In-Some) at.least at.set d (sym c.read.ensures ∙ c.in_ok-card.was) (omega arith) (omega arith))
+          ∙ at.invariant.rest;
+    }
 
 pub returns : goal.returns
 returns c =
-    let at = c.loop-from in
-    sym (all-cards c.args.field.now at.least at.set at.from (omega arith)) ∙ at.invariant.2
+    let at = c.loop-number in
+    let field = c.args.field.now in
+    let end = YieldsList-end (YieldsList-from_slice_split _ (λ (b : ℕ). eqb b 44) field (cc) (cc) (cc) (λ x b q k. search (rules, tests))) at.yielded _ at.yielded_by _ _ c.in-None.is c.next.ensures.steps in
+    let all : length (pieces (byte ",") field) ≤ length at.yielded = omega (arith, end.1, ap (λ (ps : List (List ℕ)). length ps) (split-pieces 44 field)) in
+    sym (all-cards (pieces (byte ",") field) (length at.yielded) at.least at.set all) ∙ at.invariant.rest

@@ -1,16 +1,15 @@
--- `sheet::cards::card_list` meets its contract. The loop's invariant: the set so far and the numbers from `from` on make the field's set. The
--- measure is what is left of the field.
-use mathlib.Core.Path.{◌≡◌}
-use Prim.Native.Nat.{◌+◌, ◌-◌, ◌≤◌}
-use lib.ListN.{length}
+-- `sheet::cards::card_list` meets its contract.
+use Rattle.std.proofs.Common.{◌≡◌, ◌≤◌, map, length, drop}
+use Rattle.decimal.specs.Bytes.{byte}
+use Rattle.decimal.specs.Reading.{read_as_number}
 use Rattle.objset.specs.Objset.{most_objects}
+use Rattle.table.specs.Pieces.{pieces}
 use Rattle.sheet.specs.Sheet.{rising, card_list}
-use Rattle.sheet.proofs.CardLaws.{numbers_from}
 use Rattle.sheet.proofs.cards.card_list.Given as goal
 
-abbrev pub invariant-loop-from : goal.invariant-loop-from
-invariant-loop-from l =
-    (l.from ≤ length l.field + 1) × (l.least ≤ most_objects) × (rising l.least l.set (numbers_from l.field l.from) ≡ card_list l.field)
-
-abbrev pub decreases-loop-from : goal.decreases-loop-from
-decreases-loop-from l = length l.field + 1 - l.from
+-- the set so far and the numbers that are left make the field's set
+abbrev pub invariant-loop-number : goal.invariant-loop-number
+invariant-loop-number l = record {
+  small : l.least ≤ most_objects;
+  rest : rising l.least l.set (map read_as_number (drop (length l.yielded) (pieces (byte ",") l.fn.field))) ≡ card_list l.fn.field;
+}

@@ -1,40 +1,36 @@
--- `sheet::listed::levels` meets its contract: the list has room for the tasks of a sheet, so those that were counted are the sheet's.
-use mathlib.Core.Path.{◌≡◌, ap, ◌∙◌, subst}
-use mathlib.Core.List.{List}
-use native.Mathlib.Omega.{arith}
-use Prim.Native.Nat.{ℕ, ◌≤◌}
-use lib.ListN.{length, replicate, length-replicate}
+-- `sheet::listed::levels` meets its contract.
+use Rattle.std.proofs.Common.{◌≡◌, sym, ap, ◌∙◌, ℕ, List, [], replicate, false, Result, subst}
+use Rattle.std.specs.Result.{result_unwrap_or}
 use Rattle.taskset.specs.declared.Task.{Task}
-use Rattle.taskset.specs.Tasks.{most_tasks, no_task}
+use Rattle.taskset.specs.declared.NotTasks.{NotTasks}
+use Rattle.taskset.specs.Tasks.{most_tasks}
 use Rattle.taskset.specs.Levels.{levels_given}
 use Rattle.taskset.specs.Ceilings.{RightLevels}
-use Rattle.tasklist.specs.declared.Filled.{Filled}
-use Rattle.tasklist.specs.Lists.{fill_given, filled_list, first_of}
-use Rattle.tasklist.proofs.ListLaws.{filled-back}
+use Rattle.taskset.proofs.TaskLaws.{none-set, refused}
+use Rattle.taskset.proofs.Ceilings.{levels-given}
+use Rattle.tasklist.specs.Lists.{first_of}
+use Rattle.tasklist.proofs.ListLaws.{counted, filled-back, none-filled}
 use Rattle.sheet.specs.Sheet.{sheet_tasks}
 use Rattle.sheet.proofs.Gathered.{sheet-few}
 use Rattle.sheet.proofs.listed.levels.Goals as goal
 
--- the list at first
-abbrev blank : List Task
-blank = replicate most_tasks no_task
-
--- the tasks that were counted are those of the sheet
-counted : (bytes : List ℕ) (filled : Filled) (list : List Task) → filled ≡ fill_given (sheet_tasks bytes) blank
-    → list ≡ filled_list (sheet_tasks bytes) blank → first_of filled.count list ≡ sheet_tasks bytes
-counted bytes filled list e f =
-    let ts = sheet_tasks bytes in
-    let enough : length ts ≤ length blank = omega (arith, sheet-few bytes, length-replicate most_tasks no_task) in
-    ap (λ (d : Filled). first_of d.count list) e
-    ∙ ap (λ (ys : List Task). first_of (fill_given ts blank).count ys) f
-    ∙ filled-back ts blank (sheet-few bytes) enough
+pub returns-in_err-count-clause-rule : goal.returns-in_err-count-clause-rule
+returns-in_err-count-clause-rule c =
+    let bytes = c.args.bytes.now in
+    let none : sheet_tasks bytes ≡ [] = none-filled (sheet_tasks bytes) (replicate most_tasks c.default-list.result) (sheet-few bytes) (sym c.in_err-count.ensures.answer) in
+    refused c.from_residual.result c.from_residual.ensures.0 ∙ sym (ap levels_given none ∙ levels-given [] false (sym none-set))
 
 pub returns : goal.returns
 returns c =
-    let called = c.read_into-filled in
-    let same : first_of called.result.count called.new.list ≡ sheet_tasks c.args.bytes.now =
-    counted c.args.bytes.now called.result called.new.list called.ensures.answer called.ensures.list in
+    let bytes = c.args.bytes.now in
+    let ts = sheet_tasks bytes in
+    let blank : List Task = replicate most_tasks c.default-list.result in
+    let count : c.in_ok-count.count ≡ counted ts blank = ap (λ (r : Result ℕ NotTasks). result_unwrap_or r 0) c.in_ok-count.ensures.answer in
+    let same : first_of c.in_ok-count.count c.read_into.new.list ≡ ts =
+    ap (λ (n : ℕ). first_of n c.read_into.new.list) count
+    ∙ ap (first_of (counted ts blank)) c.in_ok-count.ensures.list
+    ∙ filled-back ts blank (sheet-few bytes) (sheet-few bytes) in
     record {
       rule = c.levels.ensures.rule ∙ ap levels_given same;
-      paper = subst (λ (ts : List Task). RightLevels ts c.levels.result) same c.levels.ensures.paper;
+      paper = subst (λ (us : List Task). RightLevels us c.levels.result) same c.levels.ensures.paper;
     }

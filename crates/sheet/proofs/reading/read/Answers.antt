@@ -1,14 +1,11 @@
--- `sheet::reading::read` meets its contract: the names' places, and the tasks of the lines below.
-use mathlib.Core.Path.{sym, ap, ◌∙◌}
-use Prim.Native.Nat.{◌≤◌}
-use native.Mathlib.Omega.{arith}
-use lib.ListN.{length}
+-- `sheet::reading::read` meets its contract.
+use Rattle.std.proofs.Common.{sym, ◌∙◌, ◌≤◌, length, arith}
 use lib.Seq.{length-take-le}
 use Rattle.decimal.specs.Bytes.{byte}
 use Rattle.table.specs.Pieces.{pieces, onto}
 use Rattle.table.proofs.PieceEnds.{inside}
-use Rattle.taskset.specs.Tasks.{packed}
-use Rattle.sheet.proofs.NamesLaws.{by_names}
+use Rattle.sheet.proofs.NamesLaws.{by_names, bad-names}
+use Rattle.sheet.proofs.ReadLaws.{given-same, given-none}
 use Rattle.sheet.proofs.reading.read.Goals as goal
 use Rattle.sheet.proofs.reading.read.Goals.{After-piece_end-end}
 
@@ -22,10 +19,14 @@ slice_bounds-order-end-2 c = sym (length-take-le _ _ (ends (goal.at.slice_bounds
 pub overflow_add-end : goal.overflow_add-end
 overflow_add-end c = record { fits = omega (arith, ends (goal.at.overflow_add-end c).After-piece_end-end) }
 
+pub returns-in_err-at : goal.returns-in_err-at
+unfolding pieces onto
+returns-in_err-at c =
+    given-none _ _ c.from_residual.ensures
+    (bad-names c.args.bytes.now c.piece_end-end.result c.piece_end-end.ensures (sym c.order.ensures ∙ c.in_err-at.was))
+
 pub returns : goal.returns
 unfolding pieces onto
 returns c =
-    let bytes = c.args.bytes.now in
-    let end = c.piece_end-end.result in
-    c.read_tasks.ensures
-    ∙ rw c.order-at.ensures (ap packed (by_names bytes end c.piece_end-end.ensures))
+    given-same c.read_tasks.result
+    (by_names c.args.bytes.now c.piece_end-end.result c.piece_end-end.ensures (sym c.order.ensures ∙ c.in_ok-at.was)) c.read_tasks.ensures

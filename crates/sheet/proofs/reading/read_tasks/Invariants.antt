@@ -5,7 +5,7 @@ use Rattle.sheet.proofs.ReadLaws.{Reads}
 use Rattle.sheet.proofs.reading.read_tasks.Given as goal
 
 abbrev pub invariant-loop-from : goal.invariant-loop-from
-invariant-loop-from l = Reads l.bytes l.first l.at l.tasks l.numbers l.n l.from
+invariant-loop-from l = Reads l.bytes l.first l.at l.tasks l.n l.from
 
 abbrev pub decreases-loop-from : goal.decreases-loop-from
 decreases-loop-from l = length l.bytes + 1 - l.from

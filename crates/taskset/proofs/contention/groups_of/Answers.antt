@@ -1,45 +1,29 @@
--- `taskset::contention::groups_of` meets its contract: of a task set the cards are in the first places, and become the groups there; any other
--- set is refused.
-use mathlib.Core.Path.{◌≡◌, sym, ◌∙◌}
-use mathlib.Core.Bool.{true}
-use Prim.Native.Nat.{◌≤◌}
-use native.Mathlib.Omega.{arith}
-use lib.Seq.{length-take-le}
-use Rattle.taskset.specs.Tasks.{most_tasks, is_task_set, standing}
-use Rattle.taskset.proofs.Typed.{tasks-long, standing-words}
-use Rattle.taskset.proofs.TaskLaws.{standing-long, set-few}
-use Rattle.taskset.proofs.GroupTurns.{groups-given, groups-refused}
-use Rattle.taskset.proofs.Chains.{right-groups}
+-- `taskset::contention::groups_of` meets its contract.
+use Rattle.std.proofs.Common.{◌≡◌, sym, ap, ◌∙◌, true, false, Ok}
+use Rattle.taskset.specs.Tasks.{is_task_set, standing}
+use Rattle.taskset.specs.Groups.{groups_given}
+use Rattle.taskset.proofs.Typed.{standing-words}
+use Rattle.taskset.proofs.TaskLaws.{set-most, refused}
+use Rattle.taskset.proofs.GroupTurns.{grouped-made}
+use Rattle.taskset.proofs.Chains.{groups-given, right-groups}
 use Rattle.taskset.proofs.contention.groups_of.Goals as goal
-use Rattle.taskset.proofs.contention.groups_of.Goals.{Then-is_task_set}
 
--- where the set has passed the test
-valid : (c : Then-is_task_set) → is_task_set (standing c.args.set) ≡ true
-valid c = sym c.is_task_set.ensures ∙ c.if-is_task_set.true
-
-few : (c : Then-is_task_set) → c.args.set.count ≤ most_tasks
-few c = set-few c.args.set (valid c)
-
-pub cards_of-cards-requires : goal.cards_of-cards-requires
-cards_of-cards-requires c = few (goal.at.cards_of-cards-requires c).Then-is_task_set
-
-pub slice_bounds-cards-end : goal.slice_bounds-cards-end
-slice_bounds-cards-end c = omega (arith, few (goal.at.slice_bounds-cards-end c).Then-is_task_set)
-
-pub slice_bounds-join_groups-end : goal.slice_bounds-join_groups-end
-slice_bounds-join_groups-end c = sym (length-take-le _ _ (omega (arith, few (goal.at.slice_bounds-join_groups-end c).Then-is_task_set)))
-
-pub returns-then-is_task_set : goal.returns-then-is_task_set
-returns-then-is_task_set c =
+pub returns-in_err-tasks : goal.returns-in_err-tasks
+returns-in_err-tasks c =
     let s = c.args.set in
-    let long = standing-long s (tasks-long s _ c.well_formed.0) (few (goal.at.returns-then-is_task_set c).Then-is_task_set) in
-    let right =
-    right-groups (standing s) (standing-words s _ c.well_formed.0) _
-    (groups-given (standing s) s.count long _ _ (valid (goal.at.returns-then-is_task_set c).Then-is_task_set) c.cards_of-cards.ensures c.join_groups.ensures) in
-    record { rule = right.0; paper = right.1 }
+    let rule = refused c.from_residual.result c.from_residual.ensures.0 ∙ sym (groups-given (standing s) false c.in_err-tasks.ensures.which) in
+    record { rule = rule; paper = right-groups (standing s) (standing-words s _ c.well_formed.0) _ rule }
 
-pub returns-else-is_task_set : goal.returns-else-is_task_set
-returns-else-is_task_set c =
+pub group_cards-requires : goal.group_cards-requires
+group_cards-requires c = rw c.in_ok-tasks.ensures.tasks (set-most (standing c.args.set) (sym c.in_ok-tasks.ensures.which))
+
+pub returns : goal.returns
+returns c =
     let s = c.args.set in
-    let right = right-groups (standing s) (standing-words s _ c.well_formed.0) _ (groups-refused _ (sym c.is_task_set.ensures ∙ c.if-is_task_set.false)) in
-    record { rule = right.0; paper = right.1 }
+    let ts = c.in_ok-tasks.tasks.now in
+    let same : ts ≡ standing s = c.in_ok-tasks.ensures.tasks in
+    let rule =
+    ap Ok (grouped-made ts c.group_cards.result c.group_cards.ensures)
+    ∙ sym (groups-given ts true (c.in_ok-tasks.ensures.which ∙ ap is_task_set (sym same)))
+    ∙ ap groups_given same in
+    record { rule = rule; paper = right-groups (standing s) (standing-words s _ c.well_formed.0) _ rule }

@@ -1,15 +1,9 @@
--- `taskset::contention::replace` meets its contract. The loop's invariant: the groups from `i` on are replaced, and those before it are as they
--- were. The measure is `i`.
-use mathlib.Core.Path.{◌≡◌}
-use mathlib.Core.List.{◌++◌}
-use Prim.Native.Nat.{◌≤◌}
-use lib.ListN.{length, take, drop}
+-- `taskset::contention::replace` meets its contract.
+use Rattle.std.proofs.Common.{◌≡◌}
 use Rattle.taskset.specs.Groups.{replaced}
+use Rattle.taskset.proofs.Columns.{listed}
 use Rattle.taskset.proofs.contention.replace.Given as goal
 
-abbrev pub invariant-loop-i : goal.invariant-loop-i
-invariant-loop-i l =
-    (l.i ≤ length l.initial.groups) × (length l.groups ≡ length l.initial.groups) × (l.groups ≡ take l.i l.initial.groups ++ replaced l.cards l.whole (drop l.i l.initial.groups))
-
-abbrev pub decreases-loop-i : goal.decreases-loop-i
-decreases-loop-i l = l.i
+-- the groups before the one whose turn it is are replaced
+abbrev pub invariant-loop-group : goal.invariant-loop-group
+invariant-loop-group l = l.groups ≡ listed l.initial.groups l.group-index (replaced l.cards l.whole l.initial.groups)

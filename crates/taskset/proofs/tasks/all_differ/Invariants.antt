@@ -1,13 +1,8 @@
--- `taskset::tasks::all_differ` meets its contract. The loop's invariant: all numbers differ where those from `i` on do. The measure is what
--- is left of the list.
-use mathlib.Core.Path.{◌≡◌}
-use Prim.Native.Nat.{◌-◌}
-use lib.ListN.{length, drop}
-use Rattle.taskset.specs.Tasks.{all_differ}
+-- `taskset::tasks::all_differ` meets its contract.
+use Rattle.std.proofs.Common.{◌≡◌, drop}
+use Rattle.taskset.specs.Tasks.{all_differ, numbers_of}
 use Rattle.taskset.proofs.tasks.all_differ.Given as goal
 
+-- all numbers differ where those from `i` on do
 abbrev pub invariant-loop-i : goal.invariant-loop-i
-invariant-loop-i l = all_differ (drop l.i l.numbers) ≡ all_differ l.numbers
-
-abbrev pub decreases-loop-i : goal.decreases-loop-i
-decreases-loop-i l = length l.numbers - l.i
+invariant-loop-i l = all_differ (drop l.i (numbers_of l.tasks)) ≡ all_differ (numbers_of l.tasks)

@@ -1,44 +1,20 @@
--- A list whose first places are filled from another, as the loops over lists leave it from turn to turn; and what the tests before them come to.
-use mathlib.Core.Path.{◌≡◌, refl, sym, ◌∙◌, ap}
-use Prim.Native.Nat.{ℕ, zero, suc, ◌+◌, ◌-◌, ◌≤◌, ◌<◌}
-use native.Mathlib.Nat.{not-suc-le-zero, le_of_suc-le-suc, suc-sub-suc, zero-sub, sub-zero}
-use native.Mathlib.Numerals.{add-one}
+-- What the tests and the copies of `fill` and `taken` come to.
+use mathlib.Core.Path.{◌≡◌, sym, ◌∙◌, ap}
+use Prim.Native.Nat.{ℕ, zero, suc, ◌-◌, ◌≤◌, ◌<◌}
+use native.Mathlib.Nat.{suc-sub-suc, zero-sub, sub-zero}
 use native.Mathlib.Omega.{arith}
 use mathlib.Core.Bool.{true, false}
-use mathlib.Core.List.{List, [], ◌∷◌, ◌++◌}
+use mathlib.Core.List.{List, [], ◌++◌}
 use lib.Dec.{lit≤}
-use lib.ListN.{length, get_or, set, take, drop, replicate}
+use lib.ListN.{length, take, drop, replicate}
 use lib.Seq.{length-take-le}
+use Rattle.std.specs.Prelude.{Ok}
 use Rattle.taskset.specs.declared.Task.{Task}
 use Rattle.taskset.specs.declared.TaskSet.{TaskSet}
-use Rattle.tasklist.specs.declared.Filled.{Filled}
 use Rattle.taskset.specs.Tasks.{most_tasks, no_task, packed, standing}
 use Rattle.tasklist.specs.Lists.{have_room, fill_given, filled_list, first_of}
 use Rattle.taskset.proofs.TaskLaws.{standing-few, standing-none, standing-long}
 use Rattle.tasklist.proofs.ListLaws.{room, none-refused, short-refused, fills, fills-list, first-all, first-many, first_short}
-
--- the first i of us, and then what ys has
-abbrev pub halfway : List Task → List Task → ℕ → List Task
-halfway ys us i = take i us ++ drop i ys
-
-pub halfway-long : (i : ℕ) (ys us : List Task) → i ≤ length us → i ≤ length ys → length (halfway ys us i) ≡ length ys
-halfway-long zero ys us a b = refl
-halfway-long (suc i) ys [] a b = absurd (not-suc-le-zero a)
-halfway-long (suc i) [] (u ∷ us) a b = absurd (not-suc-le-zero b)
-halfway-long (suc i) (y ∷ ys) (u ∷ us) a b = ap suc (halfway-long i ys us (le_of_suc-le-suc a) (le_of_suc-le-suc b))
-
-next : (i : ℕ) (ys us : List Task) (d : Task) → i < length us → i < length ys
-    → set (halfway ys us i) i (get_or us i d) ≡ halfway ys us (suc i)
-next i ys [] d a b = absurd (not-suc-le-zero a)
-next i [] (u ∷ us) d a b = absurd (not-suc-le-zero b)
-next zero (y ∷ ys) (u ∷ us) d a b = refl
-next (suc i) (y ∷ ys) (u ∷ us) d a b =
-    ap {B = List Task} (λ r. u ∷ r) (next i ys us d (le_of_suc-le-suc a) (le_of_suc-le-suc b))
-
--- a turn puts one more
-pub halfway-next : (i : ℕ) (ys us : List Task) (d : Task) → i < length us → i < length ys
-    → set (halfway ys us i) i (get_or us i d) ≡ halfway ys us (i + 1)
-halfway-next i ys us d a b = next i ys us d a b ∙ ap (halfway ys us) (sym (add-one i))
 
 -- ---- `taken`: the first n of a list, in an array of no tasks
 
@@ -54,7 +30,7 @@ abbrev pub made : ℕ → List Task → TaskSet
 made c zs = record { tasks = zs; count = c }
 
 module _ (n : ℕ) (ys : List Task) where
-  pub takes : n ≤ most_tasks → n ≤ length ys → made n (halfway no_tasks ys n) ≡ packed (first_of n ys)
+  pub takes : n ≤ most_tasks → n ≤ length ys → made n (take n ys ++ drop n no_tasks) ≡ packed (first_of n ys)
   unfolding packed
   takes h k =
       ap (λ (zs : List Task). made n (take n ys ++ zs)) (drop-replicate n most_tasks)
@@ -88,9 +64,9 @@ module _ (s : TaskSet) (ys : List Task) (long : length s.tasks ≡ most_tasks) w
   pub no_place : n ≤ most_tasks → length ys < n → have_room (standing s) ys ≡ false
   no_place h k = short-refused (standing s) ys (rw (standing-long s long h) k)
 
-  pub put-answer : 0 < n → n ≤ most_tasks → n ≤ length ys → record { count = n; refusal = 0 } ≡ fill_given (standing s) ys
-  put-answer h k l = sym (fills (standing s) ys (has_room h k l) ∙ ap {B = Filled} (λ (m : ℕ). record { count = m; refusal = 0 }) (standing-long s long k))
+  pub put-answer : 0 < n → n ≤ most_tasks → n ≤ length ys → Ok n ≡ fill_given (standing s) ys
+  put-answer h k l = sym (fills (standing s) ys (has_room h k l) ∙ ap Ok (standing-long s long k))
 
-  pub put-list : 0 < n → n ≤ most_tasks → n ≤ length ys → halfway ys s.tasks n ≡ filled_list (standing s) ys
+  pub put-list : 0 < n → n ≤ most_tasks → n ≤ length ys → take n s.tasks ++ drop n ys ≡ filled_list (standing s) ys
   put-list h k l = sym (fills-list (standing s) ys (has_room h k l) ∙ ap (λ (m : ℕ). standing s ++ drop m ys) (standing-long s long k)
       ∙ ap (λ (ts : List Task). ts ++ drop n ys) (standing-few s k))
