@@ -1,5 +1,5 @@
 -- The laws behind the soundness test of one core.
-use Rattle.std.specs.Prelude.{◌≡◌, ℕ, ◌+◌, ◌-◌, ◌*◌, ◌<◌, ◌≤◌, Bool, true, false, not, ◌&&◌, eqb, ltb, leb, List, length, get_or, take, drop}
+use Rattle.std.specs.Prelude.{◌≡◌, ℕ, ◌+◌, ◌-◌, ◌*◌, ◌<◌, ◌≤◌, Bool, true, false, not, ◌&&◌, eqb, ltb, List, length, get_or, take, drop}
 use Rattle.std.specs.List.{list_all}
 use mathlib.Core.Path.{refl, sym, ap, ap₂, ◌∙◌}
 use mathlib.Core.Bool.{and_comm}
@@ -17,7 +17,7 @@ use Rattle.one_core.specs.declared.Core.{Core}
 use Rattle.one_core.specs.declared.Job.{Job}
 use Rattle.one_core.specs.Parts.{no_job, job_at}
 use Rattle.one_core.specs.Tidy.{◌⇒◌, empty_sets, zero_job, owner_first_on, blank_on}
-use Rattle.one_core.proofs.TestLaws.{and-true, same_test, if-true, true-if}
+use Rattle.one_core.proofs.TestLaws.{same_test, if-true, true-if}
 
 -- ---- the jobs of a list
 
@@ -51,51 +51,10 @@ part-each f g jobs part n m long e few inside picked = same_test _ _ to from
         ap f (at i d here)
         ∙ if-true (g (n + i)) _ (each-one 8 (λ q. g q ⇒ f (get_or jobs q no_job)) h (n + i) (omega arith)) (picked (n + i) (omega arith) (omega arith)))
 
--- ---- one core
-
--- empty sets, no mark, and owner's place, ticket and setbacks 0
-abbrev pub clear_of : Core → Bool
-clear_of k = empty_sets k && not k.zombie && eqb k.owner 0 && eqb k.ticket 0 && eqb k.aborts 0
-
--- what transaction_tidy tests
-abbrev pub transaction_of : Core → Bool
-transaction_of k = (k.active ⇒ ltb k.owner k.count) && (not k.active ⇒ clear_of k) && (k.zombie ⇒ empty_sets k)
-
--- a clear core is not marked
-unmarked : (e z o t a : Bool) → (e && not z && o && t && a) ≡ (e && not z && o && t && a && (z ⇒ e))
-unmarked true true o t a = refl
-unmarked true false o t a = sym (and-true (o && t && a))
-unmarked false z o t a = refl
-
-pub without-transaction : (k : Core) → k.active ≡ false → clear_of k ≡ transaction_of k
-without-transaction k off =
-    rw off (unmarked (empty_sets k) k.zombie (eqb k.owner 0) (eqb k.ticket 0) (eqb k.aborts 0))
-
-pub owner-in-list : (k : Core) → transaction_of k ≡ true → k.active ≡ true → k.owner < k.count
-owner-in-list k e on =
-    ltb-true k.owner k.count
-    (if-true k.active (ltb k.owner k.count)
-    (both_left _ (not k.active ⇒ clear_of k) (both_left _ (k.zombie ⇒ empty_sets k) e)) on)
-
--- the places from n on hold zeros
-abbrev pub unused_zero : List Job → ℕ → Bool
-unused_zero jobs n = each 8 (λ p. leb n p ⇒ zero_job (get_or jobs p no_job))
-
 -- no job is before the place 0
 pub owner_at_zero : (k : Core) → k.owner ≡ 0 → owner_first_on k ≡ true
 owner_at_zero k e =
     true-if k.active _ (λ on. one_each 8 _ (λ q b. true-if (ltb q k.owner) _ (λ t. absurd (omega (arith, e, ltb-true q k.owner t)))))
-
--- an owner's place that is not 0 is a transaction's
-pub has-transaction : (k : Core) → transaction_of k ≡ true → (k.owner ≡ 0 → ⊥) → k.active ≡ true
-has-transaction k e h = go k.active refl
-  where
-    go : (b : Bool) → k.active ≡ b → b ≡ true
-    go true t = refl
-    go false t =
-        let marked = empty_sets k && not k.zombie in
-        absurd (h (eqb-true k.owner 0 (both_right marked (eqb k.owner 0) (both_left (marked && eqb k.owner 0) (eqb k.ticket 0)
-        (both_left (marked && eqb k.owner 0 && eqb k.ticket 0) (eqb k.aborts 0) (without-transaction k t ∙ e))))))
 
 -- ---- a blank core
 

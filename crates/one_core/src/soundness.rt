@@ -7,9 +7,6 @@ ghost use Rattle.one_core.specs.Parts.{most_jobs};
 
 use crate::{Core, JOBS, Job};
 
-// The most jobs, as the list's count has them.
-const MOST_JOBS: u8 = JOBS as u8;
-
 impl Core {
     // Whether its sets lie within the objects.
     fn sets_within(&self, objects: u8) -> bool
@@ -72,7 +69,7 @@ impl Core {
     {
         self.sets_within(objects)
             && self.transaction_tidy()
-            && self.count <= MOST_JOBS
+            && self.count as usize <= JOBS
             && self.unused_zero()
             && (self.owner == 0 || self.owner_first())
     }
