@@ -3,7 +3,7 @@
 // is there.
 #![tactic(auto)]
 
-ghost use Rattle.std.specs.Prelude.{◌≤◌, length};
+ghost use Rattle.std.specs.Prelude.{◌≤◌, length, IfOk};
 
 use machine::Machine;
 use runner::{COMMITTED_WORDS, LINE_ROOM, PENDING_WORDS, Reading, Taken};
@@ -94,11 +94,10 @@ fn refused(rt: &impl Print, reading: Reading) -> io::Result<()> {
 
 // Prints the refusal, or the bytes that were written.
 fn show(rt: &impl Print, taken: Taken, text: &[u8]) -> io::Result<()>
-    requires { taken.written ≤ length text.now }
+    requires { IfOk taken.written (λ n. n ≤ length text.now) }
 {
-    if taken.refusal == 0 {
-        rt.write_all(&text[..taken.written])
-    } else {
-        println!(rt; "not taken: refusal {}", taken.refusal)
+    match taken.written {
+        Ok(n) => rt.write_all(&text[..n]),
+        Err(misfit) => println!(rt; "not taken: refusal {}", misfit.number()),
     }
 }
