@@ -1,5 +1,5 @@
 -- Where a piece of a line ends, byte by byte, and how that cuts the line.
-use mathlib.Core.Path.{◌≡◌, refl, ap, ◌∙◌}
+use mathlib.Core.Path.{◌≡◌, refl, ◌∙◌}
 use mathlib.Core.Bool.{Bool, true, false, cond}
 use mathlib.Core.List.{List, [], ◌∷◌}
 use Prim.Native.Nat.{ℕ, suc, ◌+◌, ◌-◌, ◌≤◌, ◌<◌}
@@ -9,8 +9,6 @@ use lib.Dec.{eqb}
 use lib.ListN.{length, get_or, take, drop, drop_of_length-le, length-drop}
 use lib.Seq.{drop-cons, drop-drop}
 use borrow.Author.Tests.{eq-eqb, ne_eqb}
-use Rattle.std.specs.List.{position_or_len}
-use Rattle.std.proofs.lemmas.List.Recursion.{is_position_or_len}
 use Rattle.table.specs.Pieces.{onto, pieces}
 use Rattle.table.specs.Fields.{until_byte, piece_end}
 
@@ -32,15 +30,6 @@ module _ (at : ℕ) (line : List ℕ) (i : ℕ) where
   pub line-ends : length line ≤ i → piece_end at line i ≡ i
   unfolding piece_end until_byte
   line-ends h = rw (drop_of_length-le line h) (omega arith)
-
--- the first place of the byte, or the length
-pub until-position : (at : ℕ) (bs : List ℕ) → until_byte at bs ≡ position_or_len (λ b. eqb b at) bs
-unfolding until_byte
-until-position at bs =
-    is_position_or_len (until_byte at) (λ b. eqb b at) refl (λ b bs. ap (cond (eqb b at) 0) (one_more (until_byte at bs))) bs
-  where
-    one_more : (n : ℕ) → suc n ≡ 1 + n
-    one_more n = omega arith
 
 -- ---- pieces, by where the first of them ends
 

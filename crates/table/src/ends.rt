@@ -1,23 +1,18 @@
 // Where a piece of a line ends.
-ghost use Rattle.std.specs.Prelude.{◌≡◌, ◌==◌};
-ghost use Rattle.std.specs.List.{position_or_len};
+ghost use Rattle.std.specs.Prelude.{◌≡◌};
 ghost use Rattle.table.specs.Fields.{piece_end, field_end, after_field};
 
 // Where the piece that begins at a place ends: at the first byte `at` from there on, or at the line's end.
 pub fn piece_end(line: &[u8], from: usize, at: u8) -> usize
     ensures { result ≡ piece_end at line.now from }
 {
-    let Some(rest) = line.get(from..) else {
-        return from;
-    };
-    from + until_byte(rest, at)
-}
-
-// How many bytes stand before the first byte `at`, or before the end.
-fn until_byte(bytes: &[u8], at: u8) -> usize
-    ensures { result ≡ position_or_len (λ b. b == at) bytes.now }
-{
-    bytes.iter().take_while(|b| **b != at).count()
+    // by places: with an iterator over the rest of the line, cutting a line takes a tenth more instructions
+    for i in from..line.len() {
+        if line[i] == at {
+            return i;
+        }
+    }
+    from.max(line.len())
 }
 
 // Where the field that begins at a place ends: at the first space from there on, or at the line's end.
