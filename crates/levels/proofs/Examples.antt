@@ -25,5 +25,5 @@ unfolding levels_printed tasks_printed is_task_set Sheet.sheet_tasks Sheet.tasks
 no_byte = refl
 
 names-alone : levels_printed (ascii "task core deadline cards\n") ≡ ascii "refused 13\n"
-unfolding levels_printed tasks_printed is_task_set Sheet.sheet_tasks Sheet.tasks_of_lines Sheet.tasks_below Sheet.gathered Pieces.pieces Pieces.onto Pieces.without_last_empty Pieces.lines Pieces.same Fields.fields_of Fields.place Fields.places_of Fields.all_stand Fields.columns Fields.columns_of
+unfolding levels_printed tasks_printed is_task_set Sheet.sheet_tasks Sheet.tasks_of_lines Sheet.tasks_below Sheet.gathered Pieces.pieces Pieces.onto Pieces.without_last_empty Pieces.lines Fields.fields_of Fields.place Fields.places_of Fields.all_stand Fields.columns Fields.columns_of
 names-alone = refl

@@ -13,8 +13,12 @@ use Rattle.listing.proofs.Laws.{Stands, stands-none, stands-next, stands-length,
 use Rattle.taskset.specs.declared.Level.{Level}
 use Rattle.taskset.specs.declared.Task.{Task}
 use Rattle.taskset.specs.declared.Levels.{Levels}
-use Rattle.taskset.specs.Tasks.{most_tasks, is_task_set}
-use Rattle.taskset.specs.Levels.{no_level, levels_of, levelled, not_levelled, levels_given}
+use Rattle.taskset.specs.declared.NotTasks.{NotTasks}
+use Rattle.std.specs.Prelude.{Result, Ok, Err}
+use Rattle.std.specs.Result.{result_unwrap_or}
+use Rattle.taskset.specs.Tasks.{most_tasks, is_task_set, not_tasks}
+use Rattle.taskset.specs.Levels.{no_level, levels_of, levelled, levels_given}
+use Rattle.taskset.proofs.Ceilings.{levels-given}
 use Rattle.taskset.proofs.TaskLaws.{set-most}
 use Rattle.taskset.proofs.LevelList.{levels_long}
 use Rattle.sheet.specs.Sheet.{sheet_tasks}
@@ -105,30 +109,31 @@ next-line {ls} {output} {after} {last} {i} {k} {r} at h room end bytes =
 
 -- ---- what is printed of a sheet
 
-module _ (bytes : List ℕ) (given : Levels) (e : given ≡ levels_given (sheet_tasks bytes)) where
+module _ (bytes : List ℕ) (r : Result Levels NotTasks) (e : r ≡ levels_given (sheet_tasks bytes)) where
   abbrev ts : List Task
   ts = sheet_tasks bytes
 
-  pub printed : given.refusal ≡ 0 → (given.count ≤ most_tasks) × (level_lines (take given.count given.list) ≡ levels_printed bytes)
-  unfolding levels_given levelled not_levelled tasks_printed levels_printed
-  printed none = go (is_task_set ts) refl none
-    where
-      for : Bool → Levels
-      for b = cond b (levelled (levels_of ts)) not_levelled
+  answer : Bool → Result Levels NotTasks
+  answer b = cond b (Ok (levelled (levels_of ts))) (Err not_tasks)
 
-      go : (b : Bool) → is_task_set ts ≡ b → given.refusal ≡ 0 → (given.count ≤ most_tasks) × (level_lines (take given.count given.list) ≡ levels_printed bytes)
-      go true is z =
-          let all : given ≡ levelled (levels_of ts) = e ∙ ap for is in
+  pub printed : {given : Levels} → r ≡ Ok given → (given.count ≤ most_tasks) × (level_lines (take given.count given.list) ≡ levels_printed bytes)
+  unfolding levelled tasks_printed levels_printed answer
+  printed {given} p = go (is_task_set ts) refl
+    where
+      go : (b : Bool) → is_task_set ts ≡ b → (given.count ≤ most_tasks) × (level_lines (take given.count given.list) ≡ levels_printed bytes)
+      go true is =
+          let same : Ok given ≡ answer true = sym p ∙ e ∙ levels-given ts true (sym is) in
+          let all : given ≡ levelled (levels_of ts) = ap (λ (x : Result Levels NotTasks). result_unwrap_or x given) same in
           rw (all, is) (
             omega (arith, levels_long ts, set-most ts is),
             ap level_lines (take-append_seam (levels_of ts) (replicate (most_tasks - length (levels_of ts)) no_level)),
           )
-      go false not z = absurd (omega (arith, z, ap (λ (l : Levels). l.refusal) (e ∙ ap for not)))
+      go false not = let other : Ok given ≡ answer false = sym p ∙ e ∙ levels-given ts false (sym not) in cc
 
-  pub refused : (given.refusal ≡ 0 → ⊥) → levels_printed bytes ≡ refused_line
-  unfolding levels_given levelled not_levelled tasks_printed levels_printed
-  refused some = go (is_task_set ts) refl
+  pub refused : {x : NotTasks} → r ≡ Err x → levels_printed bytes ≡ refused_line
+  unfolding tasks_printed levels_printed answer
+  refused {x} p = go (is_task_set ts) refl
     where
       go : (b : Bool) → is_task_set ts ≡ b → cond b (level_lines (levels_of ts)) refused_line ≡ refused_line
-      go true is = absurd (some (ap (λ (l : Levels). l.refusal) (e ∙ ap (λ (b : Bool). cond b (levelled (levels_of ts)) not_levelled) is)))
+      go true is = let other : Err x ≡ answer true = sym p ∙ e ∙ levels-given ts true (sym is) in cc
       go false not = refl

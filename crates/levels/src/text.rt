@@ -1,10 +1,10 @@
 // The lines that the program prints. The functions ask for room in the output: 33 bytes for a line, and for 32 of them.
-ghost use Rattle.std.specs.Prelude.{◌≡◌, ◌++◌, ◌+◌, ◌≤◌, length, take, drop};
+ghost use Rattle.std.specs.Prelude.{◌≡◌, ◌++◌, ◌+◌, ◌≤◌, length, drop};
 ghost use Rattle.listing.specs.Text.{placed};
 ghost use Rattle.taskset.specs.Tasks.{most_tasks};
 ghost use Rattle.levels.specs.Printed.{most_printed, level_line, level_lines, levels_printed};
 
-use taskset::{Level, Levels};
+use taskset::{Level, NotTasks};
 
 // How many bytes are enough for what is printed: a line of at most 33 for each of 32 tasks.
 pub(crate) const ROOM: usize = 33 * taskset::TASKS;
@@ -15,28 +15,21 @@ pub(crate) fn put_sheet(sheet: &[u8], output: &mut [u8]) -> usize
     ensures count { result ≡ length (levels_printed sheet.now) }
     ensures bytes { output.new ≡ levels_printed sheet.now ++ drop (length (levels_printed sheet.now)) output.old }
 {
-    let levels = sheet::levels(sheet);
-    if levels.refusal == 0 {
-        put_levels(levels, output)
-    } else {
-        listing::put_bytes(output, 0, b"refused 13\n")
+    match sheet::levels(sheet) {
+        Ok(levels) => put_levels(&levels.list[..levels.count], output),
+        Err(NotTasks) => listing::put_bytes(output, 0, b"refused 13\n"),
     }
 }
 
-// Puts the levels of the tasks of a set over the first bytes of the output, and answers how many bytes that is.
-fn put_levels(levels: Levels, output: &mut [u8]) -> usize
-    requires { (levels.count ≤ most_tasks) × (most_printed ≤ length output.old) }
-    ensures count { result ≡ length (level_lines (take levels.count levels.list)) }
-    ensures bytes { output.new ≡ level_lines (take levels.count levels.list)
-        ++ drop (length (level_lines (take levels.count levels.list))) output.old }
+// Puts the levels of at most 32 tasks over the first bytes of the output, and answers how many bytes that is.
+fn put_levels(levels: &[Level], output: &mut [u8]) -> usize
+    requires { (length levels.now ≤ most_tasks) × (most_printed ≤ length output.old) }
+    ensures count { result ≡ length (level_lines levels.now) }
+    ensures bytes { output.new ≡ level_lines levels.now ++ drop (length (level_lines levels.now)) output.old }
 {
-    let n = levels.count;
     let mut k = 0;
-    let mut i = 0;
-    while i < n {
-        let level = levels.list[i];
-        k = put_level(level, output, k);
-        i += 1;
+    for level in levels {
+        k = put_level(*level, output, k);
     }
     k
 }

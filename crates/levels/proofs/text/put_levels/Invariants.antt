@@ -1,10 +1,7 @@
--- The loop's invariant: the lines of the first i tasks are put. The measure is how many tasks are left.
-use Prim.Native.Nat.{◌-◌, ◌≤◌}
+-- `levels::text::put_levels` meets its contract.
 use Rattle.levels.proofs.Laws.{Lines}
 use Rattle.levels.proofs.text.put_levels.Given as goal
 
-abbrev pub invariant-loop-i : goal.invariant-loop-i
-invariant-loop-i l = Lines l.levels.list l.initial.output l.i l.k l.output × (l.i ≤ l.n)
-
-abbrev pub decreases-loop-i : goal.decreases-loop-i
-decreases-loop-i l = l.n - l.i
+-- the lines of the tasks before this one are put
+abbrev pub invariant-loop-level : goal.invariant-loop-level
+invariant-loop-level l = Lines l.levels l.initial.output l.level-index l.k l.output
