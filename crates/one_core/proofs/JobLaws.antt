@@ -1,6 +1,6 @@
--- The laws of `least`, one for each turn of the search for it, of `running`, and of `without`, one for each turn of the shift.
+-- The laws of `least`, one for each turn of the search for it, and of `without`.
 use Rattle.std.specs.Prelude.{◌≡◌, ℕ, zero, suc, ◌+◌, ◌-◌, ◌<◌, ◌≤◌, max, Bool, true, false, cond, ltb, List, [], ◌∷◌, ◌++◌, length, get_or, take, drop, set}
-use mathlib.Core.Path.{refl, sym, ap, ap₂, ◌∙◌}
+use mathlib.Core.Path.{refl, ap, ap₂, ◌∙◌}
 use native.Mathlib.Numerals.{add-one}
 use native.Mathlib.Omega.{arith}
 use lib.ListN.{length-append, length-drop}
@@ -8,9 +8,8 @@ use lib.Seq.{set_split, length-take-le, take_all}
 use Rattle.std.proofs.lemmas.List.{take-append-le, drop_all}
 use borrow.Author.Tests.{lt-ltb, le-ltb}
 use Rattle.std.specs.List.{copy_within}
-use Rattle.one_core.specs.declared.Core.{Core}
 use Rattle.one_core.specs.declared.Job.{Job}
-use Rattle.one_core.specs.Parts.{no_job, least, running}
+use Rattle.one_core.specs.Parts.{no_job, least}
 use Rattle.one_core.specs.Life.{without}
 
 pub least-one : (jobs : List Job) → ◌≡◌ {A = ℕ} (least jobs 1) 0
@@ -36,15 +35,6 @@ pub least-found : (jobs : List Job) (n i best : ℕ) → n ≤ i → i ≤ max n
 unfolding least
 least-found jobs zero i best p q r e = let one : i ≡ 1 = omega arith in e ∙ ap (least jobs) one ∙ least-one jobs
 least-found jobs (suc n) i best p q r e = let all : i ≡ suc n = omega arith in e ∙ ap (least jobs) all
-
--- the running job, by whether a transaction is in progress
-pub running-owner : (k : Core) → k.active ≡ true → k.owner ≡ running k
-unfolding running
-running-owner k on = sym (ap (λ (b : Bool). cond b k.owner (least k.jobs k.count)) on)
-
-pub running-least : (k : Core) → k.active ≡ false → least k.jobs k.count ≡ running k
-unfolding running
-running-least k off = sym (ap (λ (b : Bool). cond b k.owner (least k.jobs k.count)) off)
 
 -- ---- a job leaves the list
 

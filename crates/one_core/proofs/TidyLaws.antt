@@ -1,6 +1,6 @@
 -- The laws behind the soundness test of one core.
-use Rattle.std.specs.Prelude.{◌≡◌, ℕ, ◌+◌, ◌-◌, ◌*◌, ◌<◌, ◌≤◌, Bool, true, false, not, ◌&&◌, eqb, ltb, leb, List, length, get_or, take, drop}
-use Rattle.std.specs.List.{list_all}
+use Rattle.std.specs.Prelude.{◌≡◌, ℕ, ◌+◌, ◌-◌, ◌*◌, ◌<◌, ◌≤◌, Bool, true, false, not, ◌&&◌, ◌||◌, eqb, ltb, List, length, get_or, take, drop}
+use Rattle.std.specs.List.{list_all, enumerate_from}
 use mathlib.Core.Path.{refl, sym, ap, ap₂, ◌∙◌}
 use mathlib.Core.Bool.{and_comm}
 use native.Mathlib.Omega.{arith}
@@ -8,18 +8,58 @@ use native.Mathlib.Numerals.{add-one}
 use lib.ListN.{length-drop}
 use lib.Seq.{length-take-le, get_or-take, get_or-drop}
 use Rattle.std.proofs.lemmas.List.{get_or_default}
+use Rattle.std.proofs.lemmas.List.FromFn.{get_or-enumerate_from, length-enumerate_from}
 use Rattle.std.proofs.lemmas.List.Sums.{AllPass-from_list_all, list_all-from_AllPass}
 use lib.Bits.{bit_or, or_zero_l, or_add_and, and_le_r}
-use borrow.Author.Tests.{ltb-true, eqb-true, eqb-false, eq-eqb, ne_eqb}
-use Rattle.objset.specs.Objset.{each}
+use borrow.Author.Tests.{ltb-true, eqb-true, eqb-false, eq-eqb, ne_eqb, lt-ltb}
+use Rattle.objset.specs.Objset.{has, each, joined, below}
+use Rattle.objset.proofs.Digits.{has-collect}
 use Rattle.objset.proofs.Laws.{both_left, both_right, each-one, one_each}
 use Rattle.one_core.specs.declared.Core.{Core}
 use Rattle.one_core.specs.declared.Job.{Job}
 use Rattle.one_core.specs.Parts.{no_job, job_at}
 use Rattle.one_core.specs.Tidy.{◌⇒◌, empty_sets, zero_job, owner_first_on, blank_on}
-use Rattle.one_core.proofs.TestLaws.{and-true, same_test, if-true, true-if}
+use Rattle.one_core.proofs.TestLaws.{same_test, if-true, true-if, each_same, each_both}
+
+-- ---- two sets together
+
+-- a card of either set is below n if and only if it is so for both
+either_below : (a b l : Bool) → (not (a || b) || l) ≡ ((not a || l) && (not b || l))
+either_below true true true = refl
+either_below true false true = refl
+either_below true b false = refl
+either_below false b l = refl
+
+pub joined-below : (a b n : ℕ) → below (joined a b) n ≡ (below a n && below b n)
+unfolding below joined
+joined-below a b n =
+    each_same 64 _ _
+    (λ d l. ap (λ (h : Bool). not h || ltb d n) (has-collect 64 d (λ e. has a e || has b e) ∙ ap (λ (h : Bool). h && (has a d || has b d)) (lt-ltb d 64 l))
+    ∙ either_below (has a d) (has b d) (ltb d n))
+    ∙ each_both 64 _ _
 
 -- ---- the jobs of a list
+
+-- f holds of every job with its place if and only if it holds at each place
+pub places-each : (f : ℕ × Job → Bool) (jobs : List Job) → length jobs ≡ 8 → list_all f (enumerate_from 0 jobs) ≡ each 8 (λ q. f (q, get_or jobs q no_job))
+places-each f jobs long = same_test _ _ to from
+  where
+    at : (q : ℕ) (d : ℕ × Job) → q < 8 → get_or (enumerate_from 0 jobs) q d ≡ (q, get_or jobs q no_job)
+    at q d l =
+        let here : q < length jobs = omega arith in
+        let place : 0 + q ≡ q = omega arith in
+        get_or-enumerate_from 0 jobs q d here ∙ ap₂ (λ (a : ℕ) (b : Job). (a, b)) place (get_or_default jobs q d.1 no_job here)
+
+    to : list_all f (enumerate_from 0 jobs) ≡ true → each 8 (λ q. f (q, get_or jobs q no_job)) ≡ true
+    to h =
+        one_each 8 _
+        (λ q b. ap f (sym (at q (0, no_job) b))
+        ∙ AllPass-from_list_all f (enumerate_from 0 jobs) h q (0, no_job) (omega (arith, length-enumerate_from 0 jobs)))
+
+    from : each 8 (λ q. f (q, get_or jobs q no_job)) ≡ true → list_all f (enumerate_from 0 jobs) ≡ true
+    from h =
+        list_all-from_AllPass f (enumerate_from 0 jobs)
+        (λ q d l. let here : q < 8 = omega (arith, length-enumerate_from 0 jobs) in ap f (at q d here) ∙ each-one 8 _ h q here)
 
 -- f holds of every job of a part of the list, from place n on, if and only if it holds at each of its places, which g picks out
 pub part-each : (f : Job → Bool) (g : ℕ → Bool) (jobs part : List Job) (n m : ℕ) → length jobs ≡ 8 → part ≡ take m (drop n jobs) → n + m ≤ 8
@@ -51,51 +91,10 @@ part-each f g jobs part n m long e few inside picked = same_test _ _ to from
         ap f (at i d here)
         ∙ if-true (g (n + i)) _ (each-one 8 (λ q. g q ⇒ f (get_or jobs q no_job)) h (n + i) (omega arith)) (picked (n + i) (omega arith) (omega arith)))
 
--- ---- one core
-
--- empty sets, no mark, and owner's place, ticket and setbacks 0
-abbrev pub clear_of : Core → Bool
-clear_of k = empty_sets k && not k.zombie && eqb k.owner 0 && eqb k.ticket 0 && eqb k.aborts 0
-
--- what transaction_tidy tests
-abbrev pub transaction_of : Core → Bool
-transaction_of k = (k.active ⇒ ltb k.owner k.count) && (not k.active ⇒ clear_of k) && (k.zombie ⇒ empty_sets k)
-
--- a clear core is not marked
-unmarked : (e z o t a : Bool) → (e && not z && o && t && a) ≡ (e && not z && o && t && a && (z ⇒ e))
-unmarked true true o t a = refl
-unmarked true false o t a = sym (and-true (o && t && a))
-unmarked false z o t a = refl
-
-pub without-transaction : (k : Core) → k.active ≡ false → clear_of k ≡ transaction_of k
-without-transaction k off =
-    rw off (unmarked (empty_sets k) k.zombie (eqb k.owner 0) (eqb k.ticket 0) (eqb k.aborts 0))
-
-pub owner-in-list : (k : Core) → transaction_of k ≡ true → k.active ≡ true → k.owner < k.count
-owner-in-list k e on =
-    ltb-true k.owner k.count
-    (if-true k.active (ltb k.owner k.count)
-    (both_left _ (not k.active ⇒ clear_of k) (both_left _ (k.zombie ⇒ empty_sets k) e)) on)
-
--- the places from n on hold zeros
-abbrev pub unused_zero : List Job → ℕ → Bool
-unused_zero jobs n = each 8 (λ p. leb n p ⇒ zero_job (get_or jobs p no_job))
-
 -- no job is before the place 0
 pub owner_at_zero : (k : Core) → k.owner ≡ 0 → owner_first_on k ≡ true
 owner_at_zero k e =
     true-if k.active _ (λ on. one_each 8 _ (λ q b. true-if (ltb q k.owner) _ (λ t. absurd (omega (arith, e, ltb-true q k.owner t)))))
-
--- an owner's place that is not 0 is a transaction's
-pub has-transaction : (k : Core) → transaction_of k ≡ true → (k.owner ≡ 0 → ⊥) → k.active ≡ true
-has-transaction k e h = go k.active refl
-  where
-    go : (b : Bool) → k.active ≡ b → b ≡ true
-    go true t = refl
-    go false t =
-        let marked = empty_sets k && not k.zombie in
-        absurd (h (eqb-true k.owner 0 (both_right marked (eqb k.owner 0) (both_left (marked && eqb k.owner 0) (eqb k.ticket 0)
-        (both_left (marked && eqb k.owner 0 && eqb k.ticket 0) (eqb k.aborts 0) (without-transaction k t ∙ e))))))
 
 -- ---- a blank core
 

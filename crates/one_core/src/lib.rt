@@ -26,6 +26,8 @@ pub struct Job {
 }
 
 // One core: its list of jobs and its transaction. The small fields stand together, which saves the compiler copies of what lies between.
+// `active` stands beside the transaction's fields, and no Option holds them: document 01's record has them whether one is in progress or not,
+// and its standing rules say that they are 0 then.
 #[derive(Clone, Copy)]
 pub struct Core {
     // the list, in order of release; the places from count on are unused

@@ -8,9 +8,6 @@ ghost use Rattle.one_core.specs.Parts.{most_jobs};
 use crate::calls::{Act, Acted, Seen, Settled};
 use crate::{Answer, Core, JOBS, Job, Refusal};
 
-// The most jobs, as the list's count has them.
-const MOST_JOBS: u8 = JOBS as u8;
-
 // This core and this answer; all else as it was seen.
 fn leaving(k: Core, s: Seen, answer: Answer) -> Acted
     ensures { result ≡ left_on k s answer }
@@ -30,7 +27,7 @@ fn release(mut k: Core, s: Seen, job: Job) -> Result<Acted, Refusal>
     ensures { result ≡ release_on k s job }
 {
     let place = k.count;
-    if place >= MOST_JOBS {
+    if place as usize >= JOBS {
         return Err(Refusal::ListFull);
     }
     k.join(job);
@@ -54,7 +51,7 @@ fn begin(mut k: Core, s: Seen) -> Result<Acted, Refusal>
     if k.active {
         return Err(Refusal::InProgress);
     }
-    if s.tickets >= 4294967295 {
+    if s.tickets == u32::MAX {
         return Err(Refusal::TicketsSpent);
     }
     k.begin(s.tickets);
