@@ -15,7 +15,7 @@ use Rattle.machine.specs.Record.{core_at, active_at, tally}
 use Rattle.one_core.specs.Tidy.{◌⇒◌, tidy, blank_on}
 use Rattle.machine.specs.Sound.{in_range, sets_within, owner_listed, idle_clear, zombie_empty, few_jobs, unused_jobs, owner_first}
 use Rattle.machine.specs.Sound.{lacked_at, lacked_cores, version_at, versions_bounded, lacked_object_at, lacked_objects}
-use Rattle.machine.specs.Sound.{differ_at, tickets_differ, given_at, tickets_given, smaller_at, smaller_tickets, aborts_at, aborts_bounded}
+use Rattle.machine.specs.Sound.{differ_at, tickets_differ, given_at, tickets_given, smaller_tickets, aborts_at, aborts_bounded}
 use Rattle.machine.specs.Sound.{tickets_counted, sound, cards_sound, cores_tidy, turns_kept, cores_sound, turn_kept}
 use Rattle.one_core.proofs.Tidy.{blank-tidy}
 use Rattle.one_core.proofs.TestLaws.{and-true, same_test, both, each-fails, each_all, each_both, gather}

@@ -32,9 +32,7 @@ fn turn_kept(m: &Machine, c: usize, ticket: u32, aborts: u8) -> bool
         .iter()
         .filter(|k| k.active && k.ticket < ticket)
         .count();
-    m.core[..c]
-        .iter()
-        .all(|k| !k.active || ticket != k.ticket)
+    m.core[..c].iter().all(|k| !k.active || ticket != k.ticket)
         && ticket < m.tickets
         && aborts as usize + smaller < m.cores as usize
 }
