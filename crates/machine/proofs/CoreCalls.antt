@@ -1,5 +1,5 @@
 -- What a call leaves on the core that it concerns, stored, is what the rule gives.
-use Rattle.std.proofs.Common.{◌≡◌, ℕ, zero, suc, ◌+◌, ◌*◌, ◌<◌, ◌≤◌, Bool, true, false, cond, ◌&&◌, ltb, List, [], ◌∷◌, Result, Ok, Err, get_or, set, sym, refl, ap, ◌∙◌, subst, ap₂, mul-le-mul, arith, ltb-false, ltb-true}
+use Rattle.std.proofs.Common.{◌≡◌, ℕ, zero, suc, ◌+◌, ◌*◌, ◌<◌, ◌≤◌, Bool, true, false, cond, ◌&&◌, ltb, List, [], ◌∷◌, Result, Ok, Err, get_or, set, sym, refl, ap, ◌∙◌, subst, ap₂, arith, ltb-false, ltb-true}
 use mathlib.Core.Bool.{and-false}
 use lib.Seq.{set-get_or}
 use lib.ListN.{length-replicate}
@@ -269,9 +269,6 @@ module _ (m : Machine) (s : sound m ≡ true) (c d : ℕ) (at : Place) (e : Ok a
 
   pub to-one_open : (core_at m at.core).active ≡ true → m.give_ups < m.tickets
   to-one_open on = omega (arith, one-open m s at.core to-core on)
-
-pub few_words : (m : Machine) → sound m ≡ true → m.cores * m.objects ≤ 1024
-few_words m s = omega (arith, mul-le-mul (stands m s).few-cores (stands m s).few-objects)
 
 -- tables of zeros are of the right lengths
 pub zeroed-fine : (m : Machine) → sound m ≡ true → SoundWorld (zeroed m)

@@ -1,13 +1,13 @@
 -- Lists of cores: the cores after a commit.
-use Rattle.std.proofs.Common.{◌≡◌, ℕ, zero, suc, ◌+◌, ◌<◌, ◌≤◌, Bool, true, false, cond, ◌&&◌, List, [], ◌∷◌, length, get_or, set, sym, refl, ap, ◌∙◌, ap₂, arith, eq-eqb, ne_eqb}
+use Rattle.std.proofs.Common.{◌≡◌, ℕ, zero, suc, ◌+◌, ◌<◌, ◌≤◌, Bool, true, false, ◌&&◌, List, [], ◌∷◌, length, get_or, set, sym, refl, ap, ◌∙◌, ap₂, arith, eq-eqb, ne_eqb}
 use mathlib.Core.Bool.{and-false}
-use Rattle.objset.specs.Objset.{none, is_empty}
-use Rattle.objset.proofs.Laws.{has-none, empty-meeting}
+use Rattle.objset.specs.Objset.{is_empty}
+use Rattle.objset.proofs.Laws.{empty-meeting}
 use Rattle.one_core.specs.declared.Core.{Core}
 use Rattle.one_core.specs.Parts.{no_core, data_set}
 use Rattle.one_core.specs.Life.{is_struck, aborted, struck_by, over}
 use Rattle.one_core.proofs.LifeLaws.{struck-hit, struck-missed, struck-idle}
-use Rattle.machine.specs.Rule.{cleared, changed}
+use Rattle.machine.specs.Rule.{cleared}
 use Rattle.machine.specs.OneCore.{struck_all}
 use Rattle.machine.proofs.Front.{Stands, stands-next, stands-stored, stands-kept, stands-all}
 
@@ -24,7 +24,7 @@ strikes-at ws [] e l = absurd (omega arith)
 strikes-at ws (k ∷ ks) zero l = refl
 strikes-at ws (k ∷ ks) (suc e) l = strikes-at ws ks e (omega arith)
 
--- the empty write set strikes nobody and changes nothing
+-- the empty write set strikes nobody
 nobody-struck : (ws : ℕ) (k : Core) → is_empty ws ≡ true → k ≡ struck_by ws k
 nobody-struck ws k e = struck-missed ws k (ap (λ (b : Bool). k.active && b) (empty-meeting ws (data_set k) e) ∙ and-false k.active)
 
@@ -32,11 +32,6 @@ pub strikes-none : (ws : ℕ) (cores : List Core) → is_empty ws ≡ true → s
 unfolding struck_all
 strikes-none ws [] e = refl
 strikes-none ws (k ∷ ks) e = ap₂ (λ (x : Core) (xs : List Core). x ∷ xs) (sym (nobody-struck ws k e)) (strikes-none ws ks e)
-
-pub changed-none : (f : ℕ → ℕ → ℕ) (i : ℕ) (xs : List ℕ) → changed none f i xs ≡ xs
-unfolding changed
-changed-none f i [] = refl
-changed-none f i (x ∷ xs) = ap₂ (λ (y : ℕ) (ys : List ℕ). y ∷ ys) (rw (has-none i) refl) (changed-none f (suc i) xs)
 
 -- past core c every core is by `struck_by`
 struck-past : (ws c i : ℕ) (cores : List Core) → c < i → cleared ws c i cores ≡ struck_all ws cores
@@ -84,13 +79,3 @@ module _ (ws : ℕ) (old : List Core) where
   pub strikes-done : (n : ℕ) (now : List Core) → Stands n (struck_all ws old) old now → length old ≤ n → now ≡ struck_all ws old
   strikes-done n now at h =
       stands-all (struck_all ws old) old (strikes-long ws old) n now no_core at (λ e l p. absurd (omega arith))
-
-  -- as far as the loop has to go: nowhere, where the write set is empty
-  pub strikes-reached : (e : ℕ) (now : List Core) → Stands e (struck_all ws old) old now → length old ≡ 16 → cond (is_empty ws) 0 16 ≤ e → now ≡ struck_all ws old
-  strikes-reached e now at long = go (is_empty ws) refl
-    where
-      go : (b : Bool) → is_empty ws ≡ b → cond b 0 16 ≤ e → now ≡ struck_all ws old
-      go true t l =
-          stands-all (struck_all ws old) old (strikes-long ws old) e now no_core at
-          (λ i h p. ap (λ (xs : List Core). get_or xs i no_core) (sym (strikes-none ws old t)))
-      go false t l = strikes-done e now at (omega (arith, long))

@@ -1,5 +1,5 @@
 -- The refusals of the public calls that the inside functions do not know: 2 and 3, and setup's.
-use Rattle.std.proofs.Common.{◌≡◌, ℕ, ◌*◌, Bool, cond, Result, Ok, Err, refl, true, false, not, ◌&&◌, eqb, List, length, replicate, ap, ◌∙◌, ap₂, eqb-true}
+use Rattle.std.proofs.Common.{◌≡◌, ℕ, ◌*◌, Bool, cond, Ok, Err, refl, true, false, not, ◌&&◌, eqb, List, length, replicate, ap, ◌∙◌, ap₂, eqb-true}
 use Rattle.objset.proofs.Laws.{both_left, both_right}
 use Rattle.one_core.specs.declared.Answer.TheVariants.{Refused, Ready}
 use Rattle.one_core.specs.declared.refusal.Refusal.{Refusal}

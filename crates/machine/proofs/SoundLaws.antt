@@ -1,15 +1,21 @@
 -- The laws behind the soundness test: the rules that one core keeps, and the rules gathered core by core.
-use Rattle.std.proofs.Common.{◌≡◌, ℕ, ◌+◌, ◌<◌, ◌≤◌, Bool, true, false, not, ◌&&◌, eqb, ltb, sym, refl, ap, ◌∙◌, ap₂, add-one, arith, le-leb}
+use Rattle.std.proofs.Common.{◌≡◌, ℕ, zero, suc, ◌+◌, ◌<◌, ◌≤◌, Bool, true, false, cond, not, ◌&&◌, eqb, ltb, List, length, get_or, take, count_by, sym, refl, ap, ◌∙◌, ap₂, add-one, arith, le-leb, length-take-le}
+use Rattle.std.specs.List.{list_all}
+use Rattle.std.proofs.lemmas.List.{get_or-take, take_all}
+use Rattle.std.proofs.lemmas.List.Elements.{All-get_or, All-from_get_or}
+use Rattle.std.proofs.lemmas.List.Sums.{AllPass-from_list_all, list_all-from_AllPass, count_by_more_yes, count_by_more_no}
 use Rattle.std.proofs.Math.Bool.{and_comm}
 use borrow.Author.Tests.{lt-leb}
 use Rattle.objset.specs.Objset.{each}
-use Rattle.objset.proofs.Laws.{one_each}
+use Rattle.objset.proofs.Laws.{one_each, each-one}
+use Rattle.one_core.specs.declared.Core.{Core}
+use Rattle.one_core.specs.Parts.{no_core}
 use Rattle.machine.specs.declared.Machine.{Machine}
 use Rattle.machine.specs.Record.{core_at, active_at, tally}
 use Rattle.one_core.specs.Tidy.{◌⇒◌, tidy, blank_on}
 use Rattle.machine.specs.Sound.{in_range, sets_within, owner_listed, idle_clear, zombie_empty, few_jobs, unused_jobs, owner_first}
 use Rattle.machine.specs.Sound.{lacked_at, lacked_cores, version_at, versions_bounded, lacked_object_at, lacked_objects}
-use Rattle.machine.specs.Sound.{differ_at, tickets_differ, given_at, tickets_given, smaller_at, smaller_tickets, aborts_at, aborts_bounded}
+use Rattle.machine.specs.Sound.{differ_at, tickets_differ, given_at, tickets_given, smaller_tickets, aborts_at, aborts_bounded}
 use Rattle.machine.specs.Sound.{tickets_counted, sound, cards_sound, cores_tidy, turns_kept, cores_sound, turn_kept}
 use Rattle.one_core.proofs.Tidy.{blank-tidy}
 use Rattle.one_core.proofs.TestLaws.{and-true, same_test, both, each-fails, each_all, each_both, gather}
@@ -50,10 +56,6 @@ unfolding lacked_objects versions_bounded
 versions-bounded m = gather 64 _ _ _ refl
 
 -- ---- transactions in progress
-
--- the ticket t differs from the one in progress on core e
-abbrev pub differs_from : Machine → ℕ → ℕ → Bool
-differs_from m t e = (core_at m e).active ⇒ not (eqb t (core_at m e).ticket)
 
 -- what cores_kept tests of the transaction on core c
 abbrev pub turn_at : Machine → ℕ → Bool
@@ -96,9 +98,45 @@ kept-all m n c p q e a =
     ap₂ (λ (b : Bool) (x : ℕ). b && eqb m.tickets (m.commits + m.give_ups + x))
     (each_all 16 c (kept_at m) p q a ∙ cores-kept m) (e ∙ ap (λ (x : ℕ). tally x (active_at m)) s)
 
-pub ahead-all : (m : Machine) (t n b c : ℕ) → 16 ≤ c → c ≤ 16 → n ≡ b + tally c (smaller_at m t) → n ≡ b + smaller_tickets m t
+-- the cores before c by a test, and all of them by a count
+pub before-each : (f : Core → Bool) (cores : List Core) (c : ℕ) → c ≤ length cores → list_all f (take c cores) ≡ each c (λ e. f (get_or cores e no_core))
+before-each f cores c l = same_test _ _ to from
+  where
+    long : length (take c cores) ≡ c
+    long = length-take-le c cores l
+
+    to : list_all f (take c cores) ≡ true → each c (λ e. f (get_or cores e no_core)) ≡ true
+    to h =
+        one_each c _
+        (λ e b.
+        ap f (sym (get_or-take c cores e no_core b))
+        ∙ All-get_or (λ k. f k ≡ true) (take c cores) e no_core (omega (arith, long)) (AllPass-from_list_all f (take c cores) h))
+
+    from : each c (λ e. f (get_or cores e no_core)) ≡ true → list_all f (take c cores) ≡ true
+    from h =
+        list_all-from_AllPass f (take c cores)
+        (All-from_get_or (λ k. f k ≡ true) (take c cores) no_core
+        (λ e b. let here : e < c = omega (arith, long) in ap f (get_or-take c cores e no_core here) ∙ each-one c _ h e here))
+
+counted : (f : Core → Bool) (cores : List Core) (n : ℕ) → n ≤ length cores → count_by f (take n cores) ≡ tally n (λ e. f (get_or cores e no_core))
+unfolding tally
+counted f cores zero l = refl
+counted f cores (suc n) l = go (f (get_or cores n no_core)) refl (counted f cores n (omega arith))
+  where
+    one_more : count_by f (take (suc n) cores) ≡ count_by f (take (n + 1) cores)
+    one_more = ap (λ (i : ℕ). count_by f (take i cores)) (sym (add-one n))
+
+    go : (b : Bool) → f (get_or cores n no_core) ≡ b → count_by f (take n cores) ≡ tally n (λ e. f (get_or cores e no_core))
+        → count_by f (take (suc n) cores) ≡ cond b 1 0 + tally n (λ e. f (get_or cores e no_core))
+    go true t h = one_more ∙ omega (arith, count_by_more_yes f cores n no_core (omega arith) t, h)
+    go false t h = one_more ∙ omega (arith, count_by_more_no f cores n no_core (omega arith) t, h)
+
+pub smaller-counted : (m : Machine) (t : ℕ) → length m.core ≡ 16
+    → count_by (λ (k : Core). k.active && ltb k.ticket t) m.core ≡ smaller_tickets m t
 unfolding smaller_tickets
-ahead-all m t n b c p q e = let s : c ≡ 16 = omega arith in e ∙ ap (λ (x : ℕ). b + tally x (smaller_at m t)) s
+smaller-counted m t long =
+    let f : (Core → Bool) = λ k. k.active && ltb k.ticket t in
+    ap (count_by f) (sym (take_all 16 m.core (omega (arith, long)))) ∙ counted f m.core 16 (omega (arith, long))
 
 -- ---- the record
 
@@ -161,17 +199,3 @@ sound-parts m = same_test _ (sound m) to from
           p.passed-aborts-bounded,
           p.passed-tickets-counted,
         )
-
-module _ (m : Machine) where
-  three : {a b c : Bool} → in_range m ≡ a → cards_sound m ≡ b → cores_sound m ≡ c → (a && b && c) ≡ sound m
-  three a b c = sym (ap₂ ◌&&◌ (ap₂ ◌&&◌ a b) c) ∙ sound-parts m
-
-  -- by the first group that fails, or by the last
-  pub out_of_range : in_range m ≡ false → false ≡ sound m
-  out_of_range a = three a refl refl
-
-  pub unbounded : in_range m ≡ true → cards_sound m ≡ false → false ≡ sound m
-  unbounded a b = three a b refl
-
-  pub by-cores : {r : Bool} → in_range m ≡ true → cards_sound m ≡ true → r ≡ cores_sound m → r ≡ sound m
-  by-cores a b d = d ∙ three a b refl

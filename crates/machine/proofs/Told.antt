@@ -22,7 +22,3 @@ told {r} {expected} = told-by (λ (x : Outcome). x.answer) r expected
 pub lent-told : {r expected : Result} {conditions : List (Bool × ℕ)} → Smallest (refusal_number expected.answer) conditions → r ≡ expected
     → (r ≡ expected) × Tabled r.answer conditions expected.answer
 lent-told {r} {expected} = told-by (λ (x : Result). x.answer) r expected
-
--- what a call that is lent no table hands back
-abbrev pub handed : Result → Outcome
-handed x = record { answer = x.answer; machine = x.world.machine }

@@ -10,12 +10,10 @@ use Rattle.one_core.specs.declared.refusal.Refusal.TheVariants.{Unsound, WrongTa
 use Rattle.one_core.specs.Parts.{most_cores, no_core}
 use Rattle.one_core.specs.Life.{is_read_only, holds_back, struck_by}
 use Rattle.one_core.specs.Calls.{unless_on, taken, answered_on}
-use Rattle.one_core.specs.Refusal.{number}
-use Rattle.one_core.specs.declared.Answer.TheVariants.{Ready, Refused}
 use Rattle.machine.specs.declared.Machine.{Machine}
 use Rattle.machine.specs.declared.Outcome.{Outcome}
 use Rattle.machine.specs.declared.inside.calls.Place.{Place}
-use Rattle.machine.specs.Record.{core_at, blank}
+use Rattle.machine.specs.Record.{core_at}
 use Rattle.machine.specs.Rule as Rule
 use Rattle.machine.specs.Rule.{World, lent, unsound, wrong_tables, least_by, Call, Release, Begin, Read, Write, GiveUp, Finish}
 
@@ -83,11 +81,6 @@ lends _ = false
 -- an unsound record and wrong tables are refused
 abbrev pub tested : World → Result (Unit {0}) Refusal
 tested w = unless_on ((unsound w.machine, Unsound) ∷ (wrong_tables w, WrongTable) ∷ []) tt
-
--- what setup hands back: refused, the blank record
-abbrev pub set_up_as : Result Machine Refusal → Outcome
-set_up_as (Ok m) = record { answer = Ready; machine = m }
-set_up_as (Err r) = record { answer = Refused (number r); machine = blank }
 
 -- ---- commit
 

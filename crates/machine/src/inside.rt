@@ -1,4 +1,5 @@
-// The calls on a record that is sound, lent tables of the right length: what the public calls do once they have checked both,
-// and what callers use that hold such a record by proof.
+// The calls in place on a record: what the public calls do once they have checked the record and the tables, and what callers use that hold
+// a sound record by proof. Setup takes any record.
 pub mod calls;
 pub mod commit;
+pub mod setup;

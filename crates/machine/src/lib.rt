@@ -16,14 +16,13 @@ ghost use Rattle.machine.specs.Refusals.{Numbered, NumberedSetup};
 
 use crate::inside::calls::{access, alone};
 use crate::inside::commit::commit;
-use crate::setup::{fresh, set_up};
+use crate::inside::setup::set_up;
 use crate::soundness::{all_zero, is_sound};
 use objset::OBJECTS;
 use one_core::calls::Act;
 use one_core::{Answer, CORES, Core, Refusal};
 
 pub mod inside;
-mod setup;
 mod soundness;
 
 #[derive(Clone, Copy)]
@@ -83,7 +82,15 @@ impl Machine {
     pub fn blank() -> Machine
         ensures { result ≡ blank }
     {
-        fresh(0, 0)
+        Machine {
+            cores: 0,
+            objects: 0,
+            tickets: 0,
+            commits: 0,
+            give_ups: 0,
+            core: [Core::blank(); CORES],
+            versions: [0; OBJECTS],
+        }
     }
 
     // Whether the record is the blank one.
@@ -108,16 +115,9 @@ impl Machine {
         ensures runs { result.answer ≡ Ready → EveryRun (lent result.machine committed.new pending.new) }
         ensures paper { NumberedSetup cores objects committed.old pending.old result.answer }
     {
-        match set_up(cores, objects, committed, pending) {
-            Ok(machine) => Outcome {
-                machine,
-                answer: Answer::Ready,
-            },
-            Err(refusal) => Outcome {
-                machine: Machine::blank(),
-                answer: Answer::from(refusal),
-            },
-        }
+        let mut machine = Machine::blank();
+        let given = set_up(&mut machine, cores, objects, committed, pending);
+        Outcome::of(machine, given)
     }
 
     // The job joins the end of the core's list; running, if it is the running job now, or queued. 2 unsound record, 4 no such core,

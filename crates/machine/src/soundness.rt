@@ -27,17 +27,14 @@ fn turn_kept(m: &Machine, c: usize, ticket: u32, aborts: u8) -> bool
     requires { c < most_cores }
     ensures { result ≡ turn_kept m.now c ticket aborts }
 {
-    let mut n = aborts as usize;
-    for (e, other) in m.core.iter().enumerate() {
-        if other.active {
-            if other.ticket < ticket {
-                n += 1;
-            } else if e < c && other.ticket == ticket {
-                return false;
-            }
-        }
-    }
-    ticket < m.tickets && n < m.cores as usize
+    let smaller = m
+        .core
+        .iter()
+        .filter(|k| k.active && k.ticket < ticket)
+        .count();
+    m.core[..c].iter().all(|k| !k.active || ticket != k.ticket)
+        && ticket < m.tickets
+        && aborts as usize + smaller < m.cores as usize
 }
 
 // Whether each core is tidy and its transaction keeps those rules, each core that the machine lacks is blank, and the count of tickets

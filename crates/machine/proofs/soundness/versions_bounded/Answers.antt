@@ -1,5 +1,5 @@
 -- `machine::soundness::versions_bounded` meets its contract: the answer is of the versions passed.
-use Rattle.std.proofs.Common.{◌≡◌, ap₂, ℕ, ◌<◌, ◌≤◌, Bool, true, false, ◌&&◌, leb, ◌⊎◌, get_or, sym, refl, ap, ◌∙◌, inl, inr, ⊎_elim, arith, eq-eqb, eqb-true, leb-true, le-leb}
+use Rattle.std.proofs.Common.{◌≡◌, ap₂, ℕ, ◌<◌, ◌≤◌, ◌&&◌, leb, ◌⊎◌, get_or, sym, ap, ◌∙◌, inl, inr, ⊎_elim, arith, eq-eqb, eqb-true, leb-true, le-leb}
 use borrow.Author.Tests.{lt-leb}
 use Rattle.objset.specs.Objset.{each}
 use Rattle.objset.proofs.Laws.{both_right}

@@ -1,10 +1,10 @@
 -- `machine::inside::calls::access` meets its contract.
-use Rattle.std.proofs.Common.{◌≡◌, ℕ, ◌*◌, ◌+◌, ◌<◌, ◌≤◌, Ok, length, refl, ap, ◌∙◌, arith, rules}
+use Rattle.std.proofs.Common.{◌≡◌, ℕ, Ok, ap, ◌∙◌, arith}
 use Rattle.std.proofs.lemmas.Result.{err_from_is_err_and}
 use Rattle.one_core.specs.Calls.{object_of}
 use Rattle.machine.specs.Rule.{lent}
 use Rattle.machine.specs.OneCore.{found}
-use Rattle.machine.proofs.CoreCalls.{by-core, by-refusal, to-object, core-there, object-there, to-slot, few_words, to-few_jobs, to-one_open}
+use Rattle.machine.proofs.CoreCalls.{by-core, by-refusal, core-there, object-there, to-slot, to-few_jobs, to-one_open}
 use Rattle.machine.proofs.CallLaws.{refused-as}
 use Rattle.machine.proofs.inside.calls.access.Goals as goal
 use Rattle.machine.proofs.inside.calls.access.Goals.{In_ok-at}

@@ -1,5 +1,5 @@
 -- `machine::inside::calls::alone` meets its contract.
-use Rattle.std.proofs.Common.{◌≡◌, ℕ, ◌*◌, ◌+◌, Ok, get_or, sym, refl, ap, ◌∙◌, ap₂, arith, rules}
+use Rattle.std.proofs.Common.{◌≡◌, ℕ, ◌*◌, Ok, sym, ap, ◌∙◌, ap₂}
 use lib.ListN.{get_or-replicate}
 use Rattle.std.proofs.lemmas.Result.{err_from_is_err_and}
 use Rattle.one_core.specs.Calls.{object_of}

@@ -1,14 +1,11 @@
 -- `machine::inside::commit::commit` meets its contract.
-use Rattle.std.proofs.Common.{◌≡◌, ℕ, ◌*◌, ◌<◌, ◌≤◌, true, not, Ok, length, sym, ap, ◌∙◌, subst, arith, rules}
+use Rattle.std.proofs.Common.{◌≡◌, ℕ, ◌*◌, ◌<◌, length, sym, ap, ◌∙◌, arith, rules}
 use Rattle.std.proofs.lemmas.Result.{err_from_is_err_and}
 use Rattle.one_core.specs.declared.Answer.TheVariants.{Waits}
-use Rattle.machine.specs.declared.Machine.{Machine}
-use Rattle.machine.specs.Record.{core_at}
 use Rattle.machine.specs.Rule.{lent, commit, set_back_told}
-use Rattle.machine.specs.OneCore.{found_core}
 use Rattle.machine.proofs.Facts.{core-place}
 use Rattle.machine.proofs.Entries.{part-long}
-use Rattle.machine.proofs.CoreCalls.{core-found, core-lacked, few_words}
+use Rattle.machine.proofs.CoreCalls.{core-found, core-lacked}
 use Rattle.machine.proofs.CallLaws.{refused-as}
 use Rattle.machine.proofs.CommitLaws.{Ready, ready, row_within, waits-for, waits-for-nobody, commit-no-core, commit-none, commit-told, commit-waits, commit-through, carried-out}
 use Rattle.machine.proofs.inside.commit.commit.Goals as goal

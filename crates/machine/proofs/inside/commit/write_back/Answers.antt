@@ -1,5 +1,5 @@
 -- `machine::inside::commit::write_back` meets its contract.
-use Rattle.std.proofs.Common.{◌<◌, length, sym, refl, ◌∙◌, arith, rules}
+use Rattle.std.proofs.Common.{sym, refl, ◌∙◌, arith, rules}
 use Rattle.objset.proofs.Bitwise.{removed-less}
 use Rattle.machine.proofs.SetLoop.{left-all, left-next, next-left, turned_none, turned-next, turned-all}
 use Rattle.machine.proofs.inside.commit.write_back.Goals as goal
