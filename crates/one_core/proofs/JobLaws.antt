@@ -1,14 +1,15 @@
--- The laws of `least`, one for each turn of the search for it, of `running`, and of `without`, one for each turn of the shift.
-use Rattle.std.specs.Prelude.{◌≡◌, ℕ, zero, suc, ◌+◌, ◌<◌, ◌≤◌, max, Bool, true, false, cond, ltb, List, [], length, get_or, drop, set}
-use mathlib.Core.Path.{refl, sym, ap, ◌∙◌}
-use mathlib.Core.List.{append_assoc, append-nil}
+-- The laws of `least`, one for each turn of the search for it, and of `without`.
+use Rattle.std.specs.Prelude.{◌≡◌, ℕ, zero, suc, ◌+◌, ◌-◌, ◌<◌, ◌≤◌, max, Bool, true, false, cond, ltb, List, [], ◌∷◌, ◌++◌, length, get_or, take, drop, set}
+use mathlib.Core.Path.{refl, ap, ap₂, ◌∙◌}
 use native.Mathlib.Numerals.{add-one}
 use native.Mathlib.Omega.{arith}
-use lib.Seq.{take-suc-set, drop-set-lt, drop-cons, set_split, drop-length}
+use lib.ListN.{length-append, length-drop}
+use lib.Seq.{set_split, length-take-le, take_all}
+use Rattle.std.proofs.lemmas.List.{take-append-le, drop_all}
 use borrow.Author.Tests.{lt-ltb, le-ltb}
-use Rattle.one_core.specs.declared.Core.{Core}
+use Rattle.std.specs.List.{copy_within}
 use Rattle.one_core.specs.declared.Job.{Job}
-use Rattle.one_core.specs.Parts.{no_job, least, running}
+use Rattle.one_core.specs.Parts.{no_job, least}
 use Rattle.one_core.specs.Life.{without}
 
 pub least-one : (jobs : List Job) → ◌≡◌ {A = ℕ} (least jobs 1) 0
@@ -35,30 +36,34 @@ unfolding least
 least-found jobs zero i best p q r e = let one : i ≡ 1 = omega arith in e ∙ ap (least jobs) one ∙ least-one jobs
 least-found jobs (suc n) i best p q r e = let all : i ≡ suc n = omega arith in e ∙ ap (least jobs) all
 
--- the running job, by whether a transaction is in progress
-pub running-owner : (k : Core) → k.active ≡ true → k.owner ≡ running k
-unfolding running
-running-owner k on = sym (ap (λ (b : Bool). cond b k.owner (least k.jobs k.count)) on)
+-- ---- a job leaves the list
 
-pub running-least : (k : Core) → k.active ≡ false → least k.jobs k.count ≡ running k
-unfolding running
-running-least k off = sym (ap (λ (b : Bool). cond b k.owner (least k.jobs k.count)) off)
-
--- ---- a job leaves the list: the jobs after it move up, one a turn
-
--- where a job is replaced by the next one, the list without the next is the list without the job
-pub without-next : (jobs : List Job) (i : ℕ) → i + 1 < length jobs → without (set jobs i (get_or jobs (i + 1) no_job)) (i + 1) ≡ without jobs i
-without-next jobs i h =
-    let here : i < length jobs = omega arith in
-    let before : i < suc (suc i) = omega arith in
-    let next : suc i < length jobs = omega arith in
-    rw (add-one i, take-suc-set, drop-set-lt, drop-cons jobs (suc i) no_job) (simp append_assoc)
-
--- the last job leaves where its place becomes unused
-pub without-last : (jobs : List Job) (i : ℕ) → length jobs ≡ i + 1 → set jobs i no_job ≡ without jobs i
-without-last jobs i h =
-    let last : i < length jobs = omega arith in
-    rw (set_split, none, append-nil)
+-- those behind place p are copied to p, and the last place becomes unused
+pub moved-up : (jobs : List Job) (p : ℕ) (copied : List Job) (j : Job) → length jobs ≡ 8 → p < 8 → copied ≡ copy_within jobs (p + 1) (length jobs) p
+    → j ≡ no_job → set copied 7 j ≡ without jobs p
+moved-up jobs p copied j long h e n =
+    set_split copied 7 j (omega (arith, copied_long))
+    ∙ ap₂ (λ (xs ys : List Job). xs ++ j ∷ ys) front (drop_all 8 copied (omega (arith, copied_long)))
+    ∙ ap (λ (x : Job). rest ++ x ∷ []) n
   where
-    none : drop (suc i) jobs ≡ []
-    none = rw (← add-one i, ← h) (drop-length jobs)
+    rest : List Job
+    rest = take p jobs ++ drop (suc p) jobs
+
+    last : p + (length jobs - (p + 1)) ≡ 7
+    last = omega arith
+
+    rest_long : length rest ≡ 7
+    rest_long = simp (length-append, length-drop) (omega (arith, length-take-le p jobs (omega arith)))
+
+    body : copied ≡ rest ++ drop 7 jobs
+    body =
+        e
+        ∙ ap₂ (λ (xs : List Job) (k : ℕ). take p jobs ++ xs ++ drop k jobs)
+        (take_all (length jobs - (p + 1)) (drop (p + 1) jobs) (omega (arith, length-drop (p + 1) jobs))) last
+        ∙ ap (λ (k : ℕ). take p jobs ++ drop k jobs ++ drop 7 jobs) (add-one p)
+
+    copied_long : length copied ≡ 8
+    copied_long = ap length body ∙ length-append rest (drop 7 jobs) ∙ omega (arith, rest_long, length-drop 7 jobs)
+
+    front : take 7 copied ≡ rest
+    front = ap (take 7) body ∙ take-append-le 7 rest (drop 7 jobs) (omega (arith, rest_long)) ∙ take_all 7 rest (omega (arith, rest_long))

@@ -1,6 +1,6 @@
 -- Laws of tests that code makes one by one: a test after another, and a test of each of the first n numbers.
 use Rattle.std.specs.Prelude.{◌≡◌, ℕ, zero, suc, ◌+◌, ◌<◌, ◌≤◌, Bool, true, false, not, ◌&&◌}
-use mathlib.Core.Path.{refl, sym, ap, ◌∙◌}
+use mathlib.Core.Path.{refl, sym, ap, ap₂, ◌∙◌}
 use mathlib.Core.Bool.{true≢false}
 use native.Mathlib.Omega.{arith}
 use native.Mathlib.Numerals.{add-one}
@@ -66,6 +66,12 @@ each_more n f all here = sym (each_on n f here) ∙ all
 -- the end is reached
 pub each_all : (n i : ℕ) (f : ℕ → Bool) → n ≤ i → i ≤ n → each i f ≡ true → true ≡ each n f
 each_all n i f p q e = let s : i ≡ n = omega arith in sym (ap (λ (x : ℕ). each x f) (sym s) ∙ e)
+
+-- two tests that agree on each of the first n numbers
+pub each_same : (n : ℕ) (f g : ℕ → Bool) → ((d : ℕ) → d < n → f d ≡ g d) → each n f ≡ each n g
+unfolding each
+each_same zero f g h = refl
+each_same (suc n) f g h = ap₂ ◌&&◌ (h n (omega arith)) (each_same n f g (λ d l. h d (omega arith)))
 
 and-swap : (a b p q : Bool) → (a && b && (p && q)) ≡ (a && p && (b && q))
 and-swap true true p q = refl

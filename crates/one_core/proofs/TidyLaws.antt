@@ -1,111 +1,100 @@
 -- The laws behind the soundness test of one core.
-use Rattle.std.specs.Prelude.{◌≡◌, ℕ, ◌+◌, ◌*◌, ◌^◌, ◌<◌, ◌≤◌, Bool, true, false, not, ◌&&◌, ◌||◌, eqb, ltb, leb, List, get_or}
+use Rattle.std.specs.Prelude.{◌≡◌, ℕ, ◌+◌, ◌-◌, ◌*◌, ◌<◌, ◌≤◌, Bool, true, false, not, ◌&&◌, ◌||◌, eqb, ltb, List, length, get_or, take, drop}
+use Rattle.std.specs.List.{list_all, enumerate_from}
 use mathlib.Core.Path.{refl, sym, ap, ap₂, ◌∙◌}
-use mathlib.Core.Bool.{true≢false}
+use mathlib.Core.Bool.{and_comm}
 use native.Mathlib.Omega.{arith}
 use native.Mathlib.Numerals.{add-one}
+use lib.ListN.{length-drop}
+use lib.Seq.{length-take-le, get_or-take, get_or-drop}
+use Rattle.std.proofs.lemmas.List.{get_or_default}
+use Rattle.std.proofs.lemmas.List.FromFn.{get_or-enumerate_from, length-enumerate_from}
+use Rattle.std.proofs.lemmas.List.Sums.{AllPass-from_list_all, list_all-from_AllPass}
 use lib.Bits.{bit_or, or_zero_l, or_add_and, and_le_r}
-use borrow.Author.Tests.{ltb-true, leb-true, eqb-true, eqb-false, lt-ltb, le-ltb, le-leb, eq-eqb, ne_eqb, not-true}
+use borrow.Author.Tests.{ltb-true, eqb-true, eqb-false, eq-eqb, ne_eqb, lt-ltb}
 use Rattle.objset.specs.Objset.{has, each, joined, below}
-use Rattle.objset.proofs.Laws.{both_left, both_right, one_each, has-joined, joined-fits, below-member, member_below}
+use Rattle.objset.proofs.Digits.{has-collect}
+use Rattle.objset.proofs.Laws.{both_left, both_right, each-one, one_each}
 use Rattle.one_core.specs.declared.Core.{Core}
 use Rattle.one_core.specs.declared.Job.{Job}
 use Rattle.one_core.specs.Parts.{no_job, job_at}
-use Rattle.one_core.specs.Tidy.{◌⇒◌, empty_sets, zero_job, blank_on}
-use Rattle.one_core.proofs.TestLaws.{and-true, same_test, fails, each-fails, if-true, true-if}
+use Rattle.one_core.specs.Tidy.{◌⇒◌, empty_sets, zero_job, owner_first_on, blank_on}
+use Rattle.one_core.proofs.TestLaws.{same_test, if-true, true-if, each_same, each_both}
 
 -- ---- two sets together
 
-or_left : (a b : Bool) → a ≡ true → (a || b) ≡ true
-or_left true b e = refl
-or_left false b e = absurd (true≢false (sym e))
+-- a card of either set is below n if and only if it is so for both
+either_below : (a b l : Bool) → (not (a || b) || l) ≡ ((not a || l) && (not b || l))
+either_below true true true = refl
+either_below true false true = refl
+either_below true b false = refl
+either_below false b l = refl
 
-or_right : (a b : Bool) → b ≡ true → (a || b) ≡ true
-or_right true b e = refl
-or_right false b e = e
+pub joined-below : (a b n : ℕ) → below (joined a b) n ≡ (below a n && below b n)
+unfolding below joined
+joined-below a b n =
+    each_same 64 _ _
+    (λ d l. ap (λ (h : Bool). not h || ltb d n) (has-collect 64 d (λ e. has a e || has b e) ∙ ap (λ (h : Bool). h && (has a d || has b d)) (lt-ltb d 64 l))
+    ∙ either_below (has a d) (has b d) (ltb d n))
+    ∙ each_both 64 _ _
 
-module _ (a b : ℕ) (ha : a < 2 ^ 64) (hb : b < 2 ^ 64) where
-  pub joined-below : (n : ℕ) → below (joined a b) n ≡ (below a n && below b n)
-  joined-below n = same_test _ _ to from
-    where
-      to : below (joined a b) n ≡ true → (below a n && below b n) ≡ true
-      to e =
-          ap₂ ◌&&◌ (member_below a n (λ d p. below-member (joined a b) n d (joined-fits a b) e (has-joined a b d ha hb ∙ or_left (has a d) (has b d) p)))
-          (member_below b n (λ d p. below-member (joined a b) n d (joined-fits a b) e (has-joined a b d ha hb ∙ or_right (has a d) (has b d) p)))
+-- ---- the jobs of a list
 
-      from : (below a n && below b n) ≡ true → below (joined a b) n ≡ true
-      from e = member_below (joined a b) n (λ d h. go d (has a d) refl (sym (has-joined a b d ha hb) ∙ h))
-        where
-          go : (d : ℕ) (q : Bool) → has a d ≡ q → (q || has b d) ≡ true → d < n
-          go d true t h = below-member a n d ha (both_left (below a n) (below b n) e) t
-          go d false t h = below-member b n d hb (both_right (below a n) (below b n) e) h
-
--- ---- one core
-
--- empty sets, no mark, and owner's place, ticket and setbacks 0
-abbrev pub clear_of : Core → Bool
-clear_of k = empty_sets k && not k.zombie && eqb k.owner 0 && eqb k.ticket 0 && eqb k.aborts 0
-
--- what transaction_tidy tests
-abbrev pub transaction_of : Core → Bool
-transaction_of k = (k.active ⇒ ltb k.owner k.count) && (not k.active ⇒ clear_of k) && (k.zombie ⇒ empty_sets k)
-
--- a clear core is not marked
-unmarked : (e z o t a : Bool) → (e && not z && o && t && a) ≡ (e && not z && o && t && a && (z ⇒ e))
-unmarked true true o t a = refl
-unmarked true false o t a = sym (and-true (o && t && a))
-unmarked false z o t a = refl
-
-pub without-transaction : (k : Core) → k.active ≡ false → clear_of k ≡ transaction_of k
-without-transaction k off =
-    rw off (unmarked (empty_sets k) k.zombie (eqb k.owner 0) (eqb k.ticket 0) (eqb k.aborts 0))
-
-pub owner-in-list : (k : Core) → transaction_of k ≡ true → k.active ≡ true → k.owner < k.count
-owner-in-list k e on =
-    ltb-true k.owner k.count
-    (if-true k.active (ltb k.owner k.count)
-    (both_left _ (not k.active ⇒ clear_of k) (both_left _ (k.zombie ⇒ empty_sets k) e)) on)
-
--- the places from n on hold zeros
-abbrev pub unused_zero : List Job → ℕ → Bool
-unused_zero jobs n = each 8 (λ p. leb n p ⇒ zero_job (get_or jobs p no_job))
-
-pub unused-zero : (jobs : List Job) (n p : ℕ) → 8 ≤ p → ((q : ℕ) → q < p → n ≤ q → zero_job (get_or jobs q no_job) ≡ true)
-    → true ≡ unused_zero jobs n
-unused-zero jobs n p l h =
-    sym (one_each 8 _ (λ q b. true-if (leb n q) (zero_job (get_or jobs q no_job)) (λ t. h q (omega arith) (leb-true n q t))))
-
-pub unused-not-zero : (jobs : List Job) (n p : ℕ) → n ≤ p → p < 8 → zero_job (get_or jobs p no_job) ≡ false → false ≡ unused_zero jobs n
-unused-not-zero jobs n p l b e = each-fails 8 _ p b (rw (le-leb n p l, e))
-
--- every job before the owner's, at o, has a greater deadline
-abbrev pub first_at : List Job → ℕ → Bool
-first_at jobs o = each 8 (λ p. ltb p o ⇒ ltb (get_or jobs o no_job).deadline (get_or jobs p no_job).deadline)
-
-pub owner-first : (jobs : List Job) (o p : ℕ) → o ≤ p
-    → ((q : ℕ) → q < p → (get_or jobs o no_job).deadline < (get_or jobs q no_job).deadline) → true ≡ first_at jobs o
-owner-first jobs o p l h =
-    sym (one_each 8 _ (λ q b. true-if (ltb q o) _ (λ t. lt-ltb _ _ (h q (omega (arith, ltb-true q o t))))))
-
-pub owner-not-first : (jobs : List Job) (o p : ℕ) → o < 8 → p < o
-    → (get_or jobs p no_job).deadline ≤ (get_or jobs o no_job).deadline → false ≡ first_at jobs o
-owner-not-first jobs o p b l h =
-    each-fails 8 _ p (omega arith) (rw (lt-ltb p o l, le-ltb (get_or jobs o no_job).deadline (get_or jobs p no_job).deadline h))
-
--- the jobs before the place 0 are none
-pub first-at-zero : (jobs : List Job) → first_at jobs 0 ≡ true
-first-at-zero jobs = sym (owner-first jobs 0 0 (omega arith) (λ q l. absurd (omega arith)))
-
--- an owner's place that is not 0 is a transaction's
-pub has-transaction : (k : Core) → transaction_of k ≡ true → (k.owner ≡ 0 → ⊥) → k.active ≡ true
-has-transaction k e h = go k.active refl
+-- f holds of every job with its place if and only if it holds at each place
+pub places-each : (f : ℕ × Job → Bool) (jobs : List Job) → length jobs ≡ 8 → list_all f (enumerate_from 0 jobs) ≡ each 8 (λ q. f (q, get_or jobs q no_job))
+places-each f jobs long = same_test _ _ to from
   where
-    go : (b : Bool) → k.active ≡ b → b ≡ true
-    go true t = refl
-    go false t =
-        let marked = empty_sets k && not k.zombie in
-        absurd (h (eqb-true k.owner 0 (both_right marked (eqb k.owner 0) (both_left (marked && eqb k.owner 0) (eqb k.ticket 0)
-        (both_left (marked && eqb k.owner 0 && eqb k.ticket 0) (eqb k.aborts 0) (without-transaction k t ∙ e))))))
+    at : (q : ℕ) (d : ℕ × Job) → q < 8 → get_or (enumerate_from 0 jobs) q d ≡ (q, get_or jobs q no_job)
+    at q d l =
+        let here : q < length jobs = omega arith in
+        let place : 0 + q ≡ q = omega arith in
+        get_or-enumerate_from 0 jobs q d here ∙ ap₂ (λ (a : ℕ) (b : Job). (a, b)) place (get_or_default jobs q d.1 no_job here)
+
+    to : list_all f (enumerate_from 0 jobs) ≡ true → each 8 (λ q. f (q, get_or jobs q no_job)) ≡ true
+    to h =
+        one_each 8 _
+        (λ q b. ap f (sym (at q (0, no_job) b))
+        ∙ AllPass-from_list_all f (enumerate_from 0 jobs) h q (0, no_job) (omega (arith, length-enumerate_from 0 jobs)))
+
+    from : each 8 (λ q. f (q, get_or jobs q no_job)) ≡ true → list_all f (enumerate_from 0 jobs) ≡ true
+    from h =
+        list_all-from_AllPass f (enumerate_from 0 jobs)
+        (λ q d l. let here : q < 8 = omega (arith, length-enumerate_from 0 jobs) in ap f (at q d here) ∙ each-one 8 _ h q here)
+
+-- f holds of every job of a part of the list, from place n on, if and only if it holds at each of its places, which g picks out
+pub part-each : (f : Job → Bool) (g : ℕ → Bool) (jobs part : List Job) (n m : ℕ) → length jobs ≡ 8 → part ≡ take m (drop n jobs) → n + m ≤ 8
+    → ((q : ℕ) → q < 8 → g q ≡ true → (n ≤ q) × (q < n + m)) → ((q : ℕ) → n ≤ q → q < n + m → g q ≡ true)
+    → list_all f part ≡ each 8 (λ q. g q ⇒ f (get_or jobs q no_job))
+part-each f g jobs part n m long e few inside picked = same_test _ _ to from
+  where
+    part_long : length part ≡ m
+    part_long = ap length e ∙ length-take-le m (drop n jobs) (omega (arith, length-drop n jobs))
+
+    at : (i : ℕ) (d : Job) → i < m → get_or part i d ≡ get_or jobs (n + i) no_job
+    at i d l =
+        ap (λ (xs : List Job). get_or xs i d) e ∙ get_or-take m (drop n jobs) i d l ∙ get_or-drop n jobs i d
+        ∙ get_or_default jobs (n + i) d no_job (omega arith)
+
+    to : list_all f part ≡ true → each 8 (λ q. g q ⇒ f (get_or jobs q no_job)) ≡ true
+    to h =
+        one_each 8 _
+        (λ q b. true-if (g q) _
+        (λ t. let within = inside q b t in
+        let place : n + (q - n) ≡ q = omega (arith, within.0) in
+        ap f (ap (λ (i : ℕ). get_or jobs i no_job) (sym place) ∙ sym (at (q - n) no_job (omega (arith, within.0, within.1))))
+        ∙ AllPass-from_list_all f part h (q - n) no_job (omega (arith, within.0, within.1, part_long))))
+
+    from : each 8 (λ q. g q ⇒ f (get_or jobs q no_job)) ≡ true → list_all f part ≡ true
+    from h =
+        list_all-from_AllPass f part
+        (λ i d l. let here : i < m = omega (arith, part_long) in
+        ap f (at i d here)
+        ∙ if-true (g (n + i)) _ (each-one 8 (λ q. g q ⇒ f (get_or jobs q no_job)) h (n + i) (omega arith)) (picked (n + i) (omega arith) (omega arith)))
+
+-- no job is before the place 0
+pub owner_at_zero : (k : Core) → k.owner ≡ 0 → owner_first_on k ≡ true
+owner_at_zero k e =
+    true-if k.active _ (λ on. one_each 8 _ (λ q b. true-if (ltb q k.owner) _ (λ t. absurd (omega (arith, e, ltb-true q k.owner t)))))
 
 -- ---- a blank core
 
@@ -127,18 +116,11 @@ or-zero a b = go (eqb a 0) refl (eqb b 0) refl
     go true s q t = ap (λ (x : ℕ). eqb (bit_or x b) 0) (eqb-true a 0 s) ∙ ap (λ (x : ℕ). eqb x 0) (or_zero_l b) ∙ t
     go false s q t = ne_eqb (bit_or a b) 0 (λ z. eqb-false a 0 s (omega (arith, z, or_add_and a b, and_le_r a b)))
 
--- one more job is looked at
-pub each_next : (n : ℕ) (f : ℕ → Bool) → (f n && each n f) ≡ each (n + 1) f
+-- one more job is looked at, after what was already joined
+pub each_next : (n : ℕ) (f : ℕ → Bool) (a : Bool) → (a && each n f && f n) ≡ (a && each (n + 1) f)
 unfolding each
-each_next n f = ap (λ (x : ℕ). each x f) (sym (add-one n))
-
--- so it is before what was already joined
-pub each_next-joined : (n : ℕ) (f : ℕ → Bool) (a : Bool) → (f n && (each n f && a)) ≡ (each (n + 1) f && a)
-each_next-joined n f a = go (f n) ∙ ap (λ (b : Bool). b && a) (each_next n f)
-  where
-    go : (b : Bool) → (b && (each n f && a)) ≡ (b && each n f && a)
-    go true = refl
-    go false = refl
+each_next n f true = and_comm (each n f) (f n) ∙ ap (λ (x : ℕ). each x f) (sym (add-one n))
+each_next n f false = refl
 
 -- the numbers of a core beside its jobs, joined digit by digit as its test joins them
 abbrev pub numbers : Core → ℕ
@@ -146,7 +128,7 @@ numbers k = bit_or (bit_or (bit_or k.count k.owner) k.aborts) k.ticket
 
 -- whether all numbers of a core are 0, its jobs' and those beside them
 abbrev pub no_numbers : Core → Bool
-no_numbers k = each 8 (λ p. zero_job (job_at k p)) && eqb (numbers k) 0
+no_numbers k = eqb (numbers k) 0 && each 8 (λ p. zero_job (job_at k p))
 
 -- a core is blank if and only if nothing is in progress or marked, what is joined is 0, and its sets are empty
 blank-joined : (k : Core) → blank_on k ≡ (not k.active && not k.zombie && no_numbers k && empty_sets k)
@@ -155,7 +137,7 @@ blank-joined k =
     (go (not k.active && not k.zombie) (eqb k.count 0) (eqb k.owner 0) (eqb k.ticket 0) (eqb k.aborts 0)
     (each 8 (λ p. zero_job (job_at k p))) (empty_sets k))
   where
-    go : (i c o t b e s : Bool) → (i && c && o && t && b && e && s) ≡ (i && (e && (c && o && b && t)) && s)
+    go : (i c o t b e s : Bool) → (i && c && o && t && b && e && s) ≡ (i && (c && o && b && t && e) && s)
     go false c o t b e s = refl
     go true true true true true true s = refl
     go true true true true true false s = refl
@@ -170,19 +152,9 @@ blank-joined k =
     go true false o t b true s = refl
     go true false o t b false s = refl
 
--- it is not blank with a transaction in progress, with a mark, or with a number that is not 0; else its sets decide
-pub not-blank-active : (k : Core) → k.active ≡ true → false ≡ blank_on k
-not-blank-active k on = sym (blank-joined k ∙ ap (λ (b : Bool). not b && not k.zombie && no_numbers k && empty_sets k) on)
+-- v: nothing is in progress or marked, and all numbers are 0; then the sets decide, else it is not blank
+pub blank-by-sets : (k : Core) (v : Bool) → v ≡ (not k.active && not k.zombie && no_numbers k) → v ≡ true → empty_sets k ≡ blank_on k
+blank-by-sets k v e t = sym (blank-joined k ∙ ap (λ (b : Bool). b && empty_sets k) (sym e ∙ t))
 
-pub not-blank-marked : (k : Core) → k.zombie ≡ true → false ≡ blank_on k
-not-blank-marked k marked =
-    fails _ (λ e. true≢false (sym marked ∙ not-true k.zombie (both_right (not k.active) (not k.zombie) (both_left _ (no_numbers k)
-    (both_left _ (empty_sets k) (sym (blank-joined k) ∙ e))))))
-
-pub not-blank-number : (k : Core) → no_numbers k ≡ false → false ≡ blank_on k
-not-blank-number k n =
-    fails _ (λ e. true≢false (sym (both_right (not k.active && not k.zombie) (no_numbers k) (both_left _ (empty_sets k) (sym (blank-joined k) ∙ e))) ∙ n))
-
-pub blank-by-sets : (k : Core) → k.active ≡ false → k.zombie ≡ false → no_numbers k ≡ true → empty_sets k ≡ blank_on k
-blank-by-sets k off unmarked n =
-    sym (blank-joined k ∙ ap₂ (λ (b z : Bool). not b && not z && no_numbers k && empty_sets k) off unmarked ∙ ap (λ (b : Bool). b && empty_sets k) n)
+pub not-blank : (k : Core) (v : Bool) → v ≡ (not k.active && not k.zombie && no_numbers k) → v ≡ false → false ≡ blank_on k
+not-blank k v e t = sym (blank-joined k ∙ ap (λ (b : Bool). b && empty_sets k) (sym e ∙ t))

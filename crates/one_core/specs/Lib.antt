@@ -1,4 +1,5 @@
 pub mod Parts
+pub mod Refusal
 pub mod Life
 pub mod Tidy
 pub mod Formed

@@ -4,26 +4,30 @@
 
 ghost use Rattle.std.specs.Prelude.{◌≡◌};
 ghost use Rattle.one_core.specs.Parts.{blank_core};
+ghost use Rattle.one_core.specs.Refusal.{answer_of};
 
 pub mod calls;
 pub mod inside;
+mod refusal;
 mod soundness;
 
-pub use soundness::{is_blank, is_tidy};
+pub use refusal::Refusal;
 
 // How many cores a machine has at most, and how many jobs a core's list.
 pub const CORES: usize = 16;
 
 pub const JOBS: usize = 8;
 
-// A job in a core's list.
-#[derive(Clone, Copy)]
+// A job in a core's list. The default stands in an unused place.
+#[derive(Clone, Copy, PartialEq, Eq, Default)]
 pub struct Job {
     pub number: u16,
     pub deadline: u32,
 }
 
 // One core: its list of jobs and its transaction. The small fields stand together, which saves the compiler copies of what lies between.
+// `active` stands beside the transaction's fields, and no Option holds them: document 01's record has them whether one is in progress or not,
+// and its standing rules say that they are 0 then.
 #[derive(Clone, Copy)]
 pub struct Core {
     // the list, in order of release; the places from count on are unused
@@ -62,8 +66,20 @@ pub enum Answer {
     Ended,
     // the job's number
     Finished(u16),
-    // the number of the refusal
+    // the refusal's number in document 01 (`Refusal::number`): the claims and the listing speak of numbers, the listing of every one
     Refused(u8),
+}
+
+impl Answer {
+    // What a call hands back: its answer, or its refusal by number.
+    pub fn of(outcome: Result<Answer, Refusal>) -> Answer
+        ensures { result ≡ answer_of outcome }
+    {
+        match outcome {
+            Ok(answer) => answer,
+            Err(refusal) => Answer::from(refusal),
+        }
+    }
 }
 
 impl Core {
@@ -71,12 +87,8 @@ impl Core {
     pub fn blank() -> Core
         ensures { result ≡ blank_core }
     {
-        let none = Job {
-            number: 0,
-            deadline: 0,
-        };
         Core {
-            jobs: [none; JOBS],
+            jobs: [Job::default(); JOBS],
             count: 0,
             active: false,
             owner: 0,
