@@ -1,11 +1,9 @@
 -- How the lines of a listing are written, and what putting one leaves in the lent output.
-use Rattle.std.specs.Prelude.{ℕ, ◌+◌, cond, List, [], ◌++◌, length, take, drop, nat_le, nat_lt}
+use Rattle.std.specs.Prelude.{ℕ, ◌+◌, cond, List, [], ◌++◌, Option, Some, None, length, take, drop, nat_le, nat_lt}
 use Rattle.decimal.specs.Bytes.{ascii}
 use Rattle.decimal.specs.Spelling.{spelling}
 use Rattle.one_core.specs.declared.Answer.{Answer}
 use Rattle.one_core.specs.declared.Answer.TheVariants.{Ready, Running, Queued, Begun, Value, Written, Waits, Committed, SetBack, Ended, Finished, Refused}
-use Rattle.listing.specs.declared.Field.{Field}
-use Rattle.listing.specs.declared.Field.TheVariants.{Number, Dash}
 
 -- the first line of a listing: what its columns are
 abbrev pub heading : List ℕ
@@ -45,10 +43,10 @@ value_text Ended = dash
 value_text (Finished j) = spelling j
 value_text (Refused n) = spelling n
 
--- the text of a value that the code has picked out
-abbrev pub field_text : Field → List ℕ
-field_text (Number n) = spelling n
-field_text Dash = dash
+-- the text of a value, where there is one
+abbrev pub field_text : Option ℕ → List ℕ
+field_text (Some n) = spelling n
+field_text None = dash
 
 -- the answer between two spaces
 abbrev pub spaced : Answer → List ℕ

@@ -4,23 +4,18 @@
 // bytes of an output leaves there. `proofs/Laws.antt` has what a caller knows of them. The functions require nothing.
 #![tactic(auto)]
 
-ghost use Rattle.std.specs.Prelude.{◌≡◌, length, take};
+ghost use Rattle.std.specs.Prelude.{◌≡◌, length};
 ghost use Rattle.decimal.specs.Spelling.{spelling};
 ghost use Rattle.listing.specs.Text.{heading, spaced, value_text, field_text, line, fitting, put, fitting_at, placed};
 
 use one_core::Answer;
 
-// An answer's value: a number, or `-`.
+// What stands between a line's number and its newline: the answer's word between two spaces, and its value, where it has one.
 #[derive(Clone, Copy)]
-enum Field {
-    Number(u32),
-    Dash,
+struct Said {
+    word: &'static [u8],
+    value: Option<u32>,
 }
-
-// What stands between a line's number and its newline: a text whose first bytes are the answer's word
-// between two spaces, how many they are, and the value.
-#[derive(Clone, Copy)]
-struct Said([u8; 11], usize, Field);
 
 // Any line of a listing fits into so many bytes.
 const ROOM: usize = 32;
@@ -48,45 +43,42 @@ pub fn put_line(number: u32, answer: Answer, output: &mut [u8]) -> usize
         return 0;
     }
     let said = said_of(answer);
-    let text = said.0;
-    let count = said.1;
-    let field = said.2;
     let mut k = put_number(number, output, 0);
-    k += put_bytes(output, k, &text[..count]);
-    k += put_field(field, output, k);
+    k += put_bytes(output, k, said.word);
+    k += put_field(said.value, output, k);
     k + put_bytes(output, k, b"\n")
 }
 
 // What an answer says.
 fn said_of(answer: Answer) -> Said
-    ensures count { result.1 ≡ length (spaced answer) }
-    ensures text { take result.1 result.0 ≡ spaced answer }
-    ensures field { field_text result.2 ≡ value_text answer }
+    ensures word { result.word.now ≡ spaced answer }
+    ensures value { field_text result.value ≡ value_text answer }
 {
-    match answer {
-        Answer::Ready => Said(*b" ready     ", 7, Field::Dash),
-        Answer::Running => Said(*b" running   ", 9, Field::Dash),
-        Answer::Queued => Said(*b" queued    ", 8, Field::Dash),
-        Answer::Begun(ticket) => Said(*b" begun     ", 7, Field::Number(ticket)),
-        Answer::Value(value, _) => Said(*b" value     ", 7, Field::Number(value)),
-        Answer::Written => Said(*b" written   ", 9, Field::Dash),
-        Answer::Waits(core) => Said(*b" waits     ", 7, Field::Number(core as u32)),
-        Answer::Committed(setbacks) => Said(*b" committed ", 11, Field::Number(setbacks as u32)),
-        Answer::SetBack => Said(*b" setback   ", 9, Field::Dash),
-        Answer::Ended => Said(*b" ended     ", 7, Field::Dash),
-        Answer::Finished(job) => Said(*b" finished  ", 10, Field::Number(job as u32)),
-        Answer::Refused(number) => Said(*b" refused   ", 9, Field::Number(number as u32)),
-    }
+    let (word, value): (&[u8], Option<u32>) = match answer {
+        Answer::Ready => (b" ready ", None),
+        Answer::Running => (b" running ", None),
+        Answer::Queued => (b" queued ", None),
+        Answer::Begun(ticket) => (b" begun ", Some(ticket)),
+        Answer::Value(value, _) => (b" value ", Some(value)),
+        Answer::Written => (b" written ", None),
+        Answer::Waits(core) => (b" waits ", Some(u32::from(core))),
+        Answer::Committed(setbacks) => (b" committed ", Some(u32::from(setbacks))),
+        Answer::SetBack => (b" setback ", None),
+        Answer::Ended => (b" ended ", None),
+        Answer::Finished(job) => (b" finished ", Some(u32::from(job))),
+        Answer::Refused(number) => (b" refused ", Some(u32::from(number))),
+    };
+    Said { word, value }
 }
 
-// Puts a value over the output's bytes from `at` on, and answers how many bytes that is.
-fn put_field(field: Field, output: &mut [u8], at: usize) -> usize
-    ensures count { result ≡ length (fitting_at at (field_text field) output.old) }
-    ensures bytes { output.new ≡ placed at (field_text field) output.old }
+// Puts a value, or `-` where there is none, over the output's bytes from `at` on, and answers how many bytes that is.
+fn put_field(value: Option<u32>, output: &mut [u8], at: usize) -> usize
+    ensures count { result ≡ length (fitting_at at (field_text value) output.old) }
+    ensures bytes { output.new ≡ placed at (field_text value) output.old }
 {
-    match field {
-        Field::Number(n) => put_number(n, output, at),
-        Field::Dash => put_bytes(output, at, b"-"),
+    match value {
+        Some(n) => put_number(n, output, at),
+        None => put_bytes(output, at, b"-"),
     }
 }
 
@@ -109,20 +101,14 @@ pub fn put_number(n: u32, output: &mut [u8], at: usize) -> usize
 // Copies a text over the output's bytes from `at` on, and answers how many bytes it has. The bytes
 // before and after them keep what they held. Where the text does not fit, the output keeps its bytes,
 // and the answer is 0.
+#[tactic(auto, unfolding(crate::specs::Text::fitting_at, crate::specs::Text::placed))]
 pub fn put_bytes(output: &mut [u8], at: usize, text: &[u8]) -> usize
     ensures count { result ≡ length (fitting_at at text.now output.old) }
     ensures bytes { output.new ≡ placed at text.now output.old }
 {
-    if output.len() < text.len() {
+    if output.len() < text.len() || output.len() - text.len() < at {
         return 0;
     }
-    if output.len() - text.len() < at {
-        return 0;
-    }
-    let mut i = 0;
-    while i < text.len() {
-        output[at + i] = text[i];
-        i += 1;
-    }
+    output[at..at + text.len()].copy_from_slice(text);
     text.len()
 }

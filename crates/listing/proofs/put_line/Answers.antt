@@ -1,5 +1,5 @@
 -- `listing::put_line` meets its contract: the number, the word between two spaces, the value and the newline stand one after another.
-use Rattle.std.proofs.Common.{◌≡◌, ℕ, ◌+◌, ◌≤◌, List, ◌++◌, length, take, sym, ap, ◌∙◌, append_assoc, zero-add, arith, length-append, length-take}
+use Rattle.std.proofs.Common.{◌≡◌, ℕ, ◌+◌, ◌≤◌, List, ◌++◌, length, append_assoc, zero-add, arith, length-append}
 use Rattle.decimal.specs.Bytes.{ascii}
 use Rattle.decimal.specs.Spelling.{spelling}
 use Rattle.decimal.proofs.Laws.{spelling-length}
@@ -66,10 +66,6 @@ past_value c = past_word (to_word c) + c.put_field-k.result
 
 -- ---- the texts stand one after another
 
--- the part of the text that is lent
-lent : (c : After-said_of-said) → take c.said_of-said.result.1 c.said_of-said.result.0 ≡ spaced c.args.answer
-lent c = c.said_of-said.ensures.text
-
 number-stands : (c : After-put_number-k) → Stands (number (of_number c)) (output (of_number c)) c.put_number-k.result c.put_number-k.new.output
 number-stands c =
     let done = c.put_number-k.ensures in
@@ -80,14 +76,14 @@ word_stands : (c : After-put_bytes-k)
     → Stands (number (of_word c) ++ word (of_word c)) (output (of_word c)) (past_word c) c.put_bytes-k.new.output
 word_stands c =
     let args = (of_word c).args in
-    let done = rw (lent (goal.at.After-put_bytes-k c).After-said_of-said) at c.put_bytes-k.ensures in
+    let done = rw c.said_of-said.ensures.word at c.put_bytes-k.ensures in
     stands-next (word (of_word c)) (number-stands (to_number c)) (omega (arith, spelling-length args.number, spaced-short args.answer)) done.count done.bytes
 
 value-stands : (c : After-put_field-k)
     → Stands (number (of-value c) ++ word (of-value c) ++ shown (of-value c)) (output (of-value c)) (past_value c) c.put_field-k.new.output
 value-stands c =
     let args = (of-value c).args in
-    let done = rw c.said_of-said.ensures.field at c.put_field-k.ensures in
+    let done = rw c.said_of-said.ensures.value at c.put_field-k.ensures in
     let short = to-word-short args.number args.answer in
     stands-next (shown (of-value c)) (word_stands (to_word c)) (omega (arith, value-short args.answer)) done.count done.bytes
 
@@ -106,14 +102,6 @@ returns-then-output-lt-ROOM c =
     let args = c.args in
     let kept = nothing_put (line args.number args.answer) args.output.now (omega arith) in
     record { count = kept.0; bytes = kept.1 }
-
-pub slice_bounds-text-end : goal.slice_bounds-text-end
-slice_bounds-text-end c =
-    omega (arith, c.said_of-said.ensures.count, ap length (lent (goal.at.slice_bounds-text-end c).After-said_of-said), length-take c.said_of-said.result.1 c.said_of-said.result.0)
-
-pub slice_bounds-put_bytes-end : goal.slice_bounds-put_bytes-end
-slice_bounds-put_bytes-end c =
-    c.said_of-said.ensures.count ∙ ap length (sym (lent (goal.at.slice_bounds-put_bytes-end c).After-said_of-said))
 
 pub overflow_add-k : goal.overflow_add-k
 overflow_add-k c =
