@@ -7,8 +7,8 @@ use mathlib.Core.List.{List, [], ◌∷◌, ◌++◌}
 use lib.Seq.{take-append_seam, drop-append_seam}
 use lib.ListN.{length, get_or, take, drop, replicate, length-append, length-replicate, replicate-append-replicate}
 use Rattle.taskset.specs.declared.Task.{Task}
-use Rattle.tasklist.specs.Lists.{have_room, fill_given, filled_list}
-use Rattle.tasklist.proofs.ListLaws.{fills, fills-list, refuses, keeps-list}
+use Rattle.tasklist.specs.Lists.{have_room, filled_list}
+use Rattle.tasklist.proofs.ListLaws.{counted, fills, fills-list, refuses, keeps-list}
 use Rattle.lists_run.specs.Listed.{places, mark, marks}
 
 pub marks-long : (n : ℕ) → length (marks n) ≡ n
@@ -53,9 +53,9 @@ after (t ∷ ts) zero m = ap (λ (us : List Task). get_or ((ts ++ us) ++ marks m
     drop-none (suc k) = refl
 after (t ∷ ts) (suc n) m = after ts n m
 
-pub beyond-marked : (ts : List Task) (n m : ℕ) → get_or (filled_list ts (marks n) ++ marks m) (fill_given ts (marks n)).count mark ≡ mark
+pub beyond-marked : (ts : List Task) (n m : ℕ) → get_or (filled_list ts (marks n) ++ marks m) (counted ts (marks n)) mark ≡ mark
 beyond-marked ts n m = go (have_room ts (marks n)) refl
   where
-    go : (t : Bool) → have_room ts (marks n) ≡ t → get_or (filled_list ts (marks n) ++ marks m) (fill_given ts (marks n)).count mark ≡ mark
+    go : (t : Bool) → have_room ts (marks n) ≡ t → get_or (filled_list ts (marks n) ++ marks m) (counted ts (marks n)) mark ≡ mark
     go true e = rw (fills ts (marks n) e, fills-list ts (marks n) e) (after ts n m)
     go false e = rw (refuses ts (marks n) e, keeps-list ts (marks n) e) (all-marks n m)

@@ -10,8 +10,7 @@ ghost use Rattle.lists_run.specs.Listed.{places, listed_of};
 use objset::OBJECTS;
 use sheet::read_into;
 use std::{fmt, io};
-use tasklist::Filled;
-use taskset::{Groups, Levels, Task};
+use taskset::{Groups, Levels, NotTasks, Task};
 
 // Places of the list.
 const PLACES: usize = 40;
@@ -27,9 +26,9 @@ const MARK: Task = Task {
 // What comes of a sheet: the reader's answer, the levels and groups of the tasks that it counted, and the task in the place after them.
 #[derive(Clone, Copy)]
 struct Listed {
-    filled: Filled,
-    levels: Levels,
-    groups: Groups,
+    filled: Result<usize, NotTasks>,
+    levels: Result<Levels, NotTasks>,
+    groups: Result<Groups, NotTasks>,
     beyond: Task,
 }
 
@@ -57,13 +56,14 @@ fn by_list(bytes: &[u8], n: usize) -> Listed
 {
     let mut list = [MARK; PLACES];
     let filled = read_into(&mut list[..n], bytes);
-    let levels = tasklist::levels(&list[..n], filled.count);
-    let groups = tasklist::groups(&list[..n], filled.count);
+    let count = filled.unwrap_or(0);
+    let levels = tasklist::levels(&list[..n], count);
+    let groups = tasklist::groups(&list[..n], count);
     Listed {
         filled,
         levels,
         groups,
-        beyond: list[filled.count],
+        beyond: list[count],
     }
 }
 
@@ -77,20 +77,19 @@ fn show(rt: &impl Print, name: &str, bytes: &[u8], n: usize) -> io::Result<()>
         groups,
         beyond,
     } = by_list(bytes, n);
-    println!(rt;
-        "{name}, places {n}: tasks {}, refusal {}",
-        filled.count, filled.refusal
-    )?;
-    println!(rt; "  levels {}, refusal {}", levels.count, levels.refusal)?;
-    println!(rt; "  groups {}, refusal {}", groups.count, groups.refusal)?;
-    for (level, group) in levels.list.iter().zip(groups.cards).take(levels.count) {
-        println!(rt;
-            "  task {}: level {}, transaction {}, group{}",
-            level.number,
-            level.task,
-            level.transaction,
-            Cards(group)
-        )?;
+    println!(rt; "{name}, places {n}: tasks {}", Answered(filled))?;
+    println!(rt; "  levels {}", Answered(levels.map(|levels| levels.count)))?;
+    println!(rt; "  groups {}", Answered(groups.map(|groups| groups.count)))?;
+    if let (Ok(levels), Ok(groups)) = (levels, groups) {
+        for (level, group) in levels.list.iter().zip(groups.cards).take(levels.count) {
+            println!(rt;
+                "  task {}: level {}, transaction {}, group{}",
+                level.number,
+                level.task,
+                level.transaction,
+                Cards(group)
+            )?;
+        }
     }
     println!(rt;
         "  after them: task {}, core {}, deadline {}, cards{}",
@@ -113,5 +112,18 @@ impl fmt::Display for Cards {
             }
         }
         Ok(())
+    }
+}
+
+// A count and no refusal; or no tasks and the refusal's number.
+#[derive(Clone, Copy)]
+struct Answered(Result<usize, NotTasks>);
+
+impl fmt::Display for Answered {
+    fn fmt<W: fmt::Write>(&self, f: &mut fmt::Formatter<W>) -> fmt::Result {
+        match self.0 {
+            Ok(count) => write!(f, "{count}, refusal 0"),
+            Err(refused) => write!(f, "0, refusal {}", u8::from(refused)),
+        }
     }
 }

@@ -8,7 +8,10 @@ use lib.Seq.{take-append_seam}
 use Rattle.std.proofs.lemmas.List.{get_or_default}
 use Rattle.taskset.specs.Tasks.{most_tasks, no_task}
 use Rattle.tasklist.specs.Lists.{fill_given, filled_list}
-use Rattle.tasklist.proofs.ListLaws.{few-counted}
+use Rattle.std.specs.Prelude.{Result}
+use Rattle.std.specs.Result.{result_unwrap_or}
+use Rattle.taskset.specs.declared.NotTasks.{NotTasks}
+use Rattle.tasklist.proofs.ListLaws.{counted, few-counted}
 use Rattle.sheet.specs.Sheet.{sheet_tasks}
 use Rattle.sheet.proofs.Gathered.{sheet-few}
 use Rattle.lists_run.specs.Listed.{places, mark, marks, asked, listed_of}
@@ -29,14 +32,18 @@ same : (c : After-groups-groups) → length c.read_into-filled.new.list ≡ leng
 unfolding mark
 same c = c.read_into-filled.auto.list ∙ ap length (marks-lent c.args.n c.requires)
 
-few : (c : After-groups-groups) → c.read_into-filled.result.count ≤ most_tasks
-few c = rw (answered c) (few-counted (sheet_tasks c.args.bytes.now) (marks c.args.n) (sheet-few c.args.bytes.now))
+-- how many tasks were counted
+count : (c : After-groups-groups) → c.unwrap_or-count.result ≡ counted (sheet_tasks c.args.bytes.now) (marks c.args.n)
+count c = c.unwrap_or-count.ensures ∙ ap (λ (r : Result ℕ NotTasks). result_unwrap_or r 0) (answered c)
 
-pub offset_bounds-list-filled : goal.offset_bounds-list-filled
-offset_bounds-list-filled c = record { fits = omega (arith, few c) }
+few : (c : After-groups-groups) → c.unwrap_or-count.result ≤ most_tasks
+few c = rw (count c) (few-counted (sheet_tasks c.args.bytes.now) (marks c.args.n) (sheet-few c.args.bytes.now))
 
-pub bounds-list-filled : goal.bounds-list-filled
-bounds-list-filled c = omega (arith, few c)
+pub offset_bounds-list-count : goal.offset_bounds-list-count
+offset_bounds-list-count c = record { fits = omega (arith, few c) }
+
+pub bounds-list-count : goal.bounds-list-count
+bounds-list-count c = omega (arith, few c)
 
 -- the first n places of the whole list, as `levels` and `groups` are given them
 shared : (c : After-groups-groups)
@@ -48,17 +55,17 @@ shared c =
 
 -- the place after the tasks, in the whole list
 beyond : (c : After-groups-groups)
-    → get_or (c.read_into-filled.new.list ++ drop c.args.n (replicate 40 mark)) c.read_into-filled.result.count no_task ≡ mark
+    → get_or (c.read_into-filled.new.list ++ drop c.args.n (replicate 40 mark)) c.unwrap_or-count.result no_task ≡ mark
 beyond c =
     let ts = sheet_tasks c.args.bytes.now in
     let n = c.args.n in
-    let many : c.read_into-filled.result.count < length (c.read_into-filled.new.list ++ drop n (replicate 40 mark)) =
+    let many : c.unwrap_or-count.result < length (c.read_into-filled.new.list ++ drop n (replicate 40 mark)) =
     rw (marks-kept n c.requires, whole_long n c.requires c.read_into-filled.new.list (same c)) (omega (arith, few c)) in
-    get_or_default (c.read_into-filled.new.list ++ drop n (replicate 40 mark)) c.read_into-filled.result.count no_task mark many
-    ∙ rw (marks-kept n c.requires, answered c, left c) (beyond-marked ts n (places - n))
+    get_or_default (c.read_into-filled.new.list ++ drop n (replicate 40 mark)) c.unwrap_or-count.result no_task mark many
+    ∙ rw (marks-kept n c.requires, count c, left c) (beyond-marked ts n (places - n))
 
 pub returns : goal.returns
 unfolding listed_of asked mark
 returns c =
     let at = (goal.at.returns c).After-groups-groups in
-    rw (at.levels-levels.ensures.rule, at.groups-groups.ensures.rule, beyond at, shared at, answered at) refl
+    rw (at.levels-levels.ensures.rule, at.groups-groups.ensures.rule, beyond at, shared at, count at, answered at) refl
