@@ -1,14 +1,9 @@
 -- What a call on one core gives is refused where a condition holds and accepted where none does; and the same by the numbers of refusals.
-use Rattle.std.specs.Prelude.{◌≡◌, ℕ, Bool, true, false, cond, not, List, [], ◌∷◌, Option, None, Some, Result, Ok, Err}
+use Rattle.std.specs.Prelude.{◌≡◌, ℕ, Bool, true, false, cond, List, [], ◌∷◌, Result, Ok, Err}
 use mathlib.Core.Path.{refl, ap, ◌∙◌}
-use Rattle.one_core.specs.declared.Core.{Core}
-use Rattle.one_core.specs.declared.calls.Settled.{Settled}
-use Rattle.one_core.specs.declared.calls.Settled.TheVariants.{Told, Waits, Passes}
 use Rattle.one_core.specs.declared.refusal.Refusal.{Refusal}
-use Rattle.one_core.specs.declared.refusal.Refusal.TheVariants.{NoneInProgress}
 use Rattle.one_core.specs.Refusal.{number}
-use Rattle.one_core.specs.Life.{unmarked, over}
-use Rattle.one_core.specs.Calls.{first, unless_on, waits_or_passes, commit_on}
+use Rattle.one_core.specs.Calls.{first, unless_on}
 
 -- ---- the first condition that holds, by its number
 
@@ -40,16 +35,3 @@ by-number {A} {B} f g accepted p q (x ∷ xs) = go x.0 (by-number f g accepted p
         → f (cond b (Err x.1) (unless_on xs accepted)) ≡ g (cond b (number x.1) (first (numbered xs)))
     go true e = q x.1
     go false e = e
-
--- what a commit comes to on its own core: it is refused, it is told, or it waits or goes through, and then it was in progress
-pub settled-either : (P : Result Settled Refusal → Type 0) (k : Core) (ahead : Option ℕ) → P (Err NoneInProgress) → P (Ok (Told (unmarked k)))
-    → ((e : ℕ) → ahead ≡ Some e → P (Ok (Waits e))) → (k.active ≡ true → ahead ≡ None → P (Ok (Passes (over k)))) → P (commit_on k ahead)
-unfolding commit_on unless_on
-settled-either P k ahead idle told waits through = go k.active refl k.zombie ahead refl
-  where
-    go : (a : Bool) → k.active ≡ a → (z : Bool) (e : Option ℕ) → ahead ≡ e
-        → P (cond (not a) (Err NoneInProgress) (Ok (cond z (Told (unmarked k)) (waits_or_passes k e))))
-    go false off z e s = idle
-    go true on true e s = told
-    go true on false (Some e) s = waits e s
-    go true on false None s = through on s

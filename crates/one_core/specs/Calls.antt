@@ -1,5 +1,5 @@
 -- What a call gives on its core (document 01), once the core and the card are found: refusals first, in the order of their numbers.
-use Rattle.std.specs.Prelude.{◌≡◌, ℕ, ◌+◌, ◌<◌, ◌≤◌, Bool, true, cond, not, List, [], ◌∷◌, Option, None, Some, Result, Ok, Err, ◌==◌, nat_le}
+use Rattle.std.specs.Prelude.{◌≡◌, ℕ, ◌+◌, ◌<◌, ◌≤◌, Bool, true, cond, not, List, [], ◌∷◌, Result, Ok, Err, ◌==◌, nat_le}
 use Rattle.objset.specs.Objset.{has}
 use Rattle.one_core.specs.declared.Core.{Core}
 use Rattle.one_core.specs.declared.Job.{Job}
@@ -9,8 +9,6 @@ use Rattle.one_core.specs.declared.calls.Act.{Act}
 use Rattle.one_core.specs.declared.calls.Act.TheVariants.{Release, Begin, Read, Write, GiveUp, Finish}
 use Rattle.one_core.specs.declared.calls.Seen.{Seen}
 use Rattle.one_core.specs.declared.calls.Acted.{Acted}
-use Rattle.one_core.specs.declared.calls.Settled.{Settled}
-use Rattle.one_core.specs.declared.calls.Settled.TheVariants.{Told, Waits, Passes}
 use Rattle.one_core.specs.declared.refusal.Refusal.{Refusal}
 use Rattle.one_core.specs.declared.refusal.Refusal.TheVariants.{ListFull, NoJob, InProgress, NoneInProgress, TicketsSpent}
 use Rattle.one_core.specs.Parts.{most_jobs, job_at, running}
@@ -138,13 +136,3 @@ taken Finish k s = finish_on k s
 pub record Fits (k : Core) (s : Seen) : Type 0 where
   pub few_jobs : k.count ≤ most_jobs
   pub one_more : k.active ≡ true → s.give_ups < 4294967295
-
--- ---- commit, on its own core; a marked transaction is told that it was set back
-
--- it waits for the core that is first ahead; where there is none it goes through, and the transaction is over
-abbrev pub waits_or_passes : Core → Option ℕ → Settled
-waits_or_passes k (Some e) = Waits e
-waits_or_passes k None = Passes (over k)
-
-unfoldable pub commit_on : Core → Option ℕ → Result Settled Refusal
-commit_on k ahead = unless_on ((inactive k, NoneInProgress) ∷ []) (cond k.zombie (Told (unmarked k)) (waits_or_passes k ahead))

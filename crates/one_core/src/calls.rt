@@ -1,5 +1,5 @@
-// The calls that concern one core, what such a call sees beside its core and what it leaves there; the same of a commit. What they give
-// is worked out by the functions of `inside::calls`.
+// The calls that concern one core, what such a call sees beside its core and what it leaves there. What they give is worked out by the
+// functions of `inside::calls`.
 ghost use Rattle.std.specs.Prelude.{◌≡◌};
 ghost use Rattle.one_core.specs.Calls.{object_of};
 
@@ -50,15 +50,4 @@ pub struct Acted {
     pub give_ups: u32,
     pub pending: u32,
     pub answer: Answer,
-}
-
-// What a commit comes to on its own core, where it is not refused.
-#[derive(Clone, Copy)]
-pub enum Settled {
-    // it was marked, and is told that it was set back: the core without the mark
-    Told(Core),
-    // it waits, first for this core
-    Waits(u8),
-    // it goes through: the core without the transaction
-    Passes(Core),
 }

@@ -1,11 +1,10 @@
-// What a call gives on its core, once the core and the card are found: the six calls that concern one core, and the part of commit that
-// does. Each promise is an equation with a definition of specs/Calls.antt. `act_on` asks for a list of at most 8 jobs and, while a transaction
+// What a call gives on its core, once the core and the card are found: the six calls that concern one core. Each promise is an equation with a definition of specs/Calls.antt. `act_on` asks for a list of at most 8 jobs and, while a transaction
 // is in progress, for a count of give-ups that can rise (`Fits`); `begin`, `give_up` and `finish` for their part of it.
 ghost use Rattle.std.specs.Prelude.{◌≡◌, ◌<◌, ◌≤◌, true};
-ghost use Rattle.one_core.specs.Calls.{left_on, release_on, begin_on, read_on, write_on, give_up_on, finish_on, taken, commit_on, Fits};
+ghost use Rattle.one_core.specs.Calls.{left_on, release_on, begin_on, read_on, write_on, give_up_on, finish_on, taken, Fits};
 ghost use Rattle.one_core.specs.Parts.{most_jobs};
 
-use crate::calls::{Act, Acted, Seen, Settled};
+use crate::calls::{Act, Acted, Seen};
 use crate::{Answer, Core, JOBS, Job, Refusal};
 
 // This core and this answer; all else as it was seen.
@@ -150,24 +149,4 @@ pub fn act_on(act: Act, k: Core, s: Seen) -> Result<Acted, Refusal>
         Act::GiveUp => give_up(k, s),
         Act::Finish => finish(k, s),
     }
-}
-
-// What a commit gives on its own core: a marked transaction is told that it was set back; one that has to wait, first for core `ahead`, waits
-// and names it; any other is over.
-#[tactic(auto, unfolding(crate::specs::Calls::commit_on, crate::specs::Calls::unless_on))]
-pub fn settle(mut k: Core, ahead: Option<u8>) -> Result<Settled, Refusal>
-    ensures { result ≡ commit_on k ahead }
-{
-    if !k.active {
-        return Err(Refusal::NoneInProgress);
-    }
-    if k.zombie {
-        k.tell();
-        return Ok(Settled::Told(k));
-    }
-    if let Some(e) = ahead {
-        return Ok(Settled::Waits(e));
-    }
-    k.end();
-    Ok(Settled::Passes(k))
 }

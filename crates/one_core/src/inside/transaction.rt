@@ -54,7 +54,7 @@ impl Core {
     }
 
     // The read set and the write set together.
-    pub fn data_set(&self) -> u64
+    pub(crate) fn data_set(&self) -> u64
         ensures { result ≡ data_set self.now }
     {
         objset::union(self.reads, self.writes)
