@@ -7,11 +7,10 @@ use runner::{Reading, inside};
 use std::io::Read;
 use terminal::Failure;
 
-// How many bytes of the listing are held: as many as a chunk of the script may need.
-const ROOM: usize = CHUNK * runner::LINE_ROOM;
-
-// How many bytes of the script are read at a time.
+// How many bytes of the script are read at a time, and how many of the listing they may need.
 const CHUNK: usize = 2048;
+
+const ROOM: usize = CHUNK * runner::LINE_ROOM;
 
 fn main(rt: HostRuntime) {
     if terminal::has_argument(&rt) {
@@ -31,7 +30,8 @@ fn list(rt: &(impl Input + Print)) -> Result<(), Failure> {
     let mut reader = rt.reader();
     let mut input = [0u8; CHUNK];
     let mut reading = Reading::start();
-    for _i in 0..u64::MAX {
+    // a proved loop has to end, and nothing says that the input does: no run uses up these turns
+    for _ in 0..u64::MAX {
         let n = reader.read(&mut input).map_err(Failure::Read)?;
         if n == 0 {
             break;

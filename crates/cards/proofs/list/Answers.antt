@@ -13,5 +13,5 @@ slice_bounds-output-end g c =
 pub slice_bounds-write_all-end : goal.slice_bounds-write_all-end
 slice_bounds-write_all-end g c = sym (length-take-le _ _ (slice_bounds-output-end g c.before))
 
-pub loop-i-init : goal.loop-i-init
-loop-i-init g c = (start-fit _ _ _ c.start-reading.ensures refl refl, refl)
+pub loop-init : goal.loop-init
+loop-init g c = (start-fit _ _ _ c.start-reading.ensures refl refl, refl)

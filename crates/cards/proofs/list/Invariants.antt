@@ -3,7 +3,7 @@ use Rattle.std.proofs.Common.{◌≡◌, length}
 use Rattle.runner.specs.Kept.{ReadingFits}
 use Rattle.cards.proofs.list.Given as goal
 
-abbrev pub invariant-loop-i : goal.invariant-loop-i
-invariant-loop-i g l =
+abbrev pub invariant-loop : goal.invariant-loop
+invariant-loop g l =
     ReadingFits l.reading l.committed l.pending
     × (length l.output ≡ length l.initial.output)
