@@ -37,6 +37,7 @@ fn verb(bytes: &[u8]) -> Option<Verb>
 
 // What stands in a field of a number.
 #[tactic(auto, unfolding(crate::specs::Line::field))]
+#[inline(always)]
 fn field(bytes: &[u8]) -> Option<Field>
     ensures { result ≡ field bytes.now }
 {
@@ -48,6 +49,7 @@ fn field(bytes: &[u8]) -> Option<Field>
 
 // The call that a verb and three fields spell. Each call has a number under core; a release's job number, under card, is at most 65,535.
 #[tactic(auto, unfolding(crate::specs::Line::spelt, crate::specs::Line::with_number, crate::specs::Line::with_dash))]
+#[inline(always)]
 fn spelt(verb: Verb, core: Field, card: Field, value: Field) -> Option<Call>
     ensures { result ≡ spelt verb core card value }
 {
