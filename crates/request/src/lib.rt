@@ -8,8 +8,9 @@ ghost use Rattle.std.specs.Prelude.{◌≡◌};
 ghost use Rattle.script.specs.Line.{names, spells};
 ghost use Rattle.request.specs.Asks.{of_names, made, unfounded, of_line, asks};
 
+use one_core::Refusal;
 use one_core::calls::Act;
-use script::{Call, Columns, Line, Names};
+use script::{Call, Columns};
 
 // How many lines are read, the line of names among them.
 const MOST_LINES: u32 = 1_000_000;
@@ -19,8 +20,10 @@ const MOST_LINES: u32 = 1_000_000;
 pub enum Asked {
     // the line of names: the order of the fields of the other lines; nothing is listed of it
     Order(Columns),
-    // the number of the refusal, and whether lines are still read
-    Refused(u8, bool),
+    // a refusal; the next line is read
+    Refused(Refusal),
+    // a refusal after which nothing is read
+    Ended(Refusal),
     // a new machine: cores, cards
     Setup(u32, u32),
     // a commit: the core
@@ -30,16 +33,18 @@ pub enum Asked {
 }
 
 // The line of names: a bad one is refused, and nothing is read after it.
+#[tactic(auto, unfolding(crate::specs::Asks::of_names))]
 fn names_line(line: &[u8]) -> Asked
     ensures { result ≡ of_names (names line.now) }
 {
-    let Names::Order(order) = script::order(line) else {
-        return Asked::Refused(11, false);
+    let Some(order) = script::order(line) else {
+        return Asked::Ended(Refusal::Malformed);
     };
     Asked::Order(order)
 }
 
 // A call, where there is a machine.
+#[tactic(auto, unfolding(crate::specs::Asks::made))]
 fn founded(call: Call) -> Asked
     ensures { result ≡ made call }
 {
@@ -56,29 +61,33 @@ fn founded(call: Call) -> Asked
 }
 
 // A call where there is no machine: any but setup is refused 2.
+#[tactic(auto, unfolding(crate::specs::Asks::unfounded))]
 fn unfounded(call: Call) -> Asked
     ensures { result ≡ unfounded call }
 {
     let Call::Setup(cores, cards) = call else {
-        return Asked::Refused(2, true);
+        return Asked::Refused(Refusal::Unsound);
     };
     Asked::Setup(cores, cards)
 }
 
 // A line of values: a line that is not a call yields refusal 11, and the next line is read.
+#[tactic(auto, unfolding(crate::specs::Asks::of_line))]
 fn values_line(columns: Columns, line: &[u8], cores: u8) -> Asked
     ensures { result ≡ of_line cores (spells columns line.now) }
 {
-    let Line::Spells(call) = script::parse(columns, line) else {
-        return Asked::Refused(11, true);
+    let Some(call) = script::parse(columns, line) else {
+        return Asked::Refused(Refusal::Malformed);
     };
     if cores == 0 {
-        return unfounded(call);
+        unfounded(call)
+    } else {
+        founded(call)
     }
-    founded(call)
 }
 
 // A line that has ended, whichever it is: line 1 has the names, line 1,000,001 is refused 11 and ends the run, any other has values.
+#[tactic(auto, unfolding(crate::specs::Asks::asks))]
 pub fn end_line(columns: Columns, number: u32, line: &[u8], cores: u8) -> Asked
     ensures { result ≡ asks columns number line.now cores }
 {
@@ -86,7 +95,7 @@ pub fn end_line(columns: Columns, number: u32, line: &[u8], cores: u8) -> Asked
         return names_line(line);
     }
     if MOST_LINES < number {
-        return Asked::Refused(11, false);
+        return Asked::Ended(Refusal::Malformed);
     }
     values_line(columns, line, cores)
 }
