@@ -2,7 +2,6 @@
 use Rattle.std.specs.Prelude.{ℕ, cond, List, Option, None, Some, ◌==◌, nat_lt}
 use Rattle.one_core.specs.declared.Refusal.TheVariants.{Unsound, Malformed}
 use Rattle.one_core.specs.declared.calls.Act.TheVariants as Act
-use Rattle.one_core.specs.declared.refusal.Refusal.TheVariants.{Unsound, Malformed}
 use Rattle.script.specs.declared.Call.{Call}
 use Rattle.script.specs.declared.Columns.{Columns}
 use Rattle.script.specs.Line.{names, spells}

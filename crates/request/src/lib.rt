@@ -80,10 +80,9 @@ fn values_line(columns: Columns, line: &[u8], cores: u8) -> Asked
         return Asked::Refused(Refusal::Malformed);
     };
     if cores == 0 {
-        unfounded(call)
-    } else {
-        founded(call)
+        return unfounded(call);
     }
+    founded(call)
 }
 
 // A line that has ended, whichever it is: line 1 has the names, line 1,000,001 is refused 11 and ends the run, any other has values.
