@@ -1,17 +1,22 @@
 -- Three words for each task, put one task after another, and when they fit.
 use mathlib.Core.Path.{◌≡◌, refl, sym, ap, ◌∙◌}
 use mathlib.Core.Bool.{Bool, true, false, cond}
-use mathlib.Core.List.{List, [], ◌∷◌, ◌++◌}
+use mathlib.Core.List.{List, [], ◌∷◌, ◌++◌, append_assoc}
+use native.Mathlib.Numerals.{add-one}
 use Prim.Native.Nat.{ℕ, zero, suc, ◌+◌, ◌-◌, ◌*◌, ◌/◌, ◌≤◌, ◌<◌}
 use native.Mathlib.Omega.{arith}
-use lib.ListN.{length, take, drop, set, get_or, replicate}
-use lib.Seq.{length-take-le, take-suc, take_at, take-append_seam, drop-append-add, drop-drop, sets-eq}
+use lib.ListN.{length, take, drop, get_or, replicate}
+use lib.Seq.{length-take-le, take-suc, take_at, drop_at, take-append_seam, drop-drop}
 use borrow.Author.Tests.{ltb-false}
 use Rattle.taskset.specs.declared.Level.{Level}
 use Rattle.taskset.specs.declared.Task.{Task}
 use Rattle.taskset.specs.declared.Levels.{Levels}
-use Rattle.taskset.specs.Tasks.{most_tasks, is_task_set}
-use Rattle.taskset.specs.Levels.{no_level, side_by_side, levels_of, levelled, not_levelled, levels_given}
+use Rattle.taskset.specs.declared.NotTasks.{NotTasks}
+use Rattle.std.specs.Prelude.{Result, Ok, Err}
+use Rattle.std.specs.Result.{result_unwrap_or}
+use Rattle.taskset.specs.Tasks.{most_tasks, is_task_set, not_tasks}
+use Rattle.taskset.specs.Levels.{no_level, side_by_side, levels_of, levelled, levels_given}
+use Rattle.taskset.proofs.Ceilings.{levels-given}
 use Rattle.taskset.proofs.LevelList.{levels_long}
 use Rattle.sheet.specs.Sheet.{sheet_tasks}
 use Rattle.sheet.proofs.Laws.{sheet-levels}
@@ -53,15 +58,14 @@ pub no_words : (ls : List Level) (words : List ℕ) → Words ls words 0 words
 unfolding level_words
 no_words ls words = refl
 
-pub next-words : (ls : List Level) (words after : List ℕ) (i : ℕ) → Words ls words i after → i < length ls → 3 * suc i ≤ length words → length after ≡ length words
-    → Words ls words (suc i) (set (set (set after (3 * i) (get_or ls i no_level).number) (3 * i + 1) (get_or ls i no_level).task) (3 * i + 2) (get_or ls i no_level).transaction)
-next-words ls words after i at h room same =
-    let one : 3 * i + 1 ≡ suc (3 * i) = omega arith in
-    let two : 3 * i + 2 ≡ suc (suc (3 * i)) = omega arith in
-    rw (one, two) (
-    sets-eq (words_of l) after (3 * i) (omega (arith, room, same))
-    ∙ ap (λ (xs : List ℕ). xs ++ words_of l ++ drop (3 * i + 3) after) before
-    ∙ ap (λ (xs : List ℕ). put ++ words_of l ++ xs) past
+pub next-words : (ls : List Level) (words after : List ℕ) (i : ℕ) → Words ls words i after → i < length ls
+    → take (3 * i) after ++ (words_of (get_or ls i no_level) ++ drop (3 * i + 3 - 3 * i) (drop (3 * i) after)) ≡ level_words (take (i + 1) ls) ++ drop (3 * (i + 1)) words
+next-words ls words after i at h =
+    let three : 3 * i + 3 - 3 * i ≡ 3 = omega arith in
+    rw (three, add-one i) (
+    ap (λ (xs : List ℕ). xs ++ (words_of l ++ drop 3 (drop (3 * i) after))) before
+    ∙ ap (λ (xs : List ℕ). put ++ (words_of l ++ xs)) past
+    ∙ sym (append_assoc put (words_of l) (drop (3 * suc i) words))
     ∙ ap (λ (xs : List ℕ). xs ++ drop (3 * suc i) words) (sym more)
     )
   where
@@ -77,14 +81,11 @@ next-words ls words after i at h room same =
     before : take (3 * i) after ≡ put
     before = ap (λ (xs : List ℕ). take (3 * i) xs) at ∙ take_at put (drop (3 * i) words) (3 * i) long
 
-    next : 3 * i + 3 ≡ 3 * suc i
-    next = omega arith
-
-    past : drop (3 * i + 3) after ≡ drop (3 * suc i) words
+    past : drop 3 (drop (3 * i) after) ≡ drop (3 * suc i) words
     past =
-        ap (λ (xs : List ℕ). drop (3 * i + 3) xs) at
-        ∙ ap (λ (n : ℕ). drop (n + 3) (put ++ drop (3 * i) words)) (sym long)
-        ∙ drop-append-add put (drop (3 * i) words) 3
+        let next : 3 * i + 3 ≡ 3 * suc i = omega arith in
+        ap (λ (xs : List ℕ). drop 3 (drop (3 * i) xs)) at
+        ∙ ap (drop 3) (drop_at put (drop (3 * i) words) (3 * i) long)
         ∙ drop-drop 3 (3 * i) words
         ∙ ap (λ (n : ℕ). drop n words) next
 
@@ -95,6 +96,7 @@ next-words ls words after i at h room same =
 
 pub record Given (bytes : List ℕ) (given : Levels) : Type 0 where
   pub few : given.count ≤ most_tasks
+  pub size : length (take given.count given.list) ≡ given.count
   pub words : level_words (take given.count given.list) ≡ sheet_words bytes
   pub long : length (sheet_words bytes) ≡ 3 * given.count
 
@@ -106,35 +108,48 @@ no-tasks : level_words (levels_of []) ≡ []
 unfolding level_words levels_of side_by_side
 no-tasks = refl
 
-no-levels : level_words [] ≡ []
-unfolding level_words
-no-levels = refl
+module _ (bytes : List ℕ) where
+  abbrev ts : List Task
+  ts = sheet_tasks bytes
 
-pub sheet-given : (bytes : List ℕ) (given : Levels) → given ≡ levels_given (sheet_tasks bytes) → Given bytes given
-unfolding levels_given levelled not_levelled sheet_words
-sheet-given bytes given worked = go (is_task_set ts) refl
-  where
-    ts : List Task
-    ts = sheet_tasks bytes
+  answer : Bool → Result Levels NotTasks
+  answer b = cond b (Ok (levelled (levels_of ts))) (Err not_tasks)
 
-    out : Bool → Levels
-    out b = cond b (levelled (levels_of ts)) not_levelled
+  pub sheet-given : (given : Levels) → Ok given ≡ levels_given ts → Given bytes given
+  unfolding levelled sheet_words answer
+  sheet-given given worked = go (is_task_set ts) refl
+    where
+      go : (b : Bool) → is_task_set ts ≡ b → Given bytes given
+      go true is =
+          let same : Ok given ≡ answer true = worked ∙ levels-given ts true (sym is) in
+          let all : given ≡ levelled (levels_of ts) = ap (λ (r : Result Levels NotTasks). result_unwrap_or r given) same in
+          let first = take-append_seam (levels_of ts) (replicate (most_tasks - length (levels_of ts)) no_level) in
+          rw all
+          record {
+            few = omega (arith, levels_long ts, sheet-few bytes);
+            size = ap (λ (ls : List Level). length ls) first;
+            words = ap level_words first;
+            long = words_long (levels_of ts);
+          }
+      go false not = let other : Ok given ≡ answer false = worked ∙ levels-given ts false (sym not) in cc
 
-    go : (b : Bool) → is_task_set ts ≡ b → Given bytes given
-    go true is =
-        rw (worked ∙ ap out is)
-        record {
-          few = omega (arith, levels_long ts, sheet-few bytes);
-          words = ap level_words (take-append_seam (levels_of ts) (replicate (most_tasks - length (levels_of ts)) no_level));
-          long = words_long (levels_of ts);
-        }
-    go false not = rw (worked ∙ ap out not) record { few = omega arith; words = no-levels ∙ sym nothing; long = ap length nothing }
-      where
-        empty : ts ≡ []
-        empty = none ts (ltb-false 0 (length ts) (sym (sheet-set bytes) ∙ not))
+  -- bytes that are no sheet have no words
+  pub sheet-refused : {x : NotTasks} → Err x ≡ levels_given ts → sheet_words bytes ≡ []
+  unfolding sheet_words answer
+  sheet-refused {x} worked = go (is_task_set ts) refl
+    where
+      go : (b : Bool) → is_task_set ts ≡ b → level_words (levels_of ts) ≡ []
+      go true is = let other : Err x ≡ answer true = worked ∙ levels-given ts true (sym is) in cc
+      go false not =
+          let empty : ts ≡ [] = none ts (ltb-false 0 (length ts) (sym (sheet-set bytes) ∙ not)) in
+          ap (λ (xs : List Task). level_words (levels_of xs)) empty ∙ no-tasks
 
-        nothing : level_words (levels_of ts) ≡ []
-        nothing = ap (λ (xs : List Task). level_words (levels_of xs)) empty ∙ no-tasks
+  -- so none are put
+  pub nothing-put : (words : List ℕ) → sheet_words bytes ≡ []
+      → (0 ≡ length (whole_or_none (sheet_words bytes) words) / 3) × (words ≡ output_after (sheet_words bytes) words)
+  nothing-put words e =
+      let nothing : whole_or_none (sheet_words bytes) words ≡ [] = rw e (whole [] words (omega arith)) in
+      (ap (λ (xs : List ℕ). length xs / 3) (sym nothing), sym (output-after (sheet_words bytes) words [] nothing))
 
 module _ (bytes words : List ℕ) (given : Levels) (g : Given bytes given) where
   -- words too few for them

@@ -1,7 +1,6 @@
 // The C functions on sheets (include/cards.h): the levels of the tasks of any sheet, and of the sheet that the kit ships with. They have no
 // condition; `put_words` beneath them asks for room.
-ghost use Rattle.std.specs.Prelude.{◌≡◌, ◌++◌, ◌*◌, ◌/◌, ◌≤◌, length, take, drop, get_or};
-ghost use Rattle.taskset.specs.Tasks.{most_tasks};
+ghost use Rattle.std.specs.Prelude.{◌≡◌, ◌++◌, ◌*◌, ◌/◌, ◌≤◌, length, drop, get_or};
 ghost use Rattle.taskset.specs.Levels.{no_level};
 ghost use Rattle.sheet.specs.Sheet.{sheet_tasks};
 ghost use Rattle.sheet.specs.Shipped.{shipped_sheet, shipped_levels};
@@ -9,7 +8,7 @@ ghost use Rattle.entry.specs.Fitting.{whole_or_none, output_after};
 ghost use Rattle.entry.specs.Words.{level_words, sheet_words, RightWords};
 
 use sheet::shipped;
-use taskset::Levels;
+use taskset::Level;
 
 // Puts three words for each task of the sheet, in its order, over the first words: task, task level, transaction level; and answers how
 // many tasks there are. Bytes that are no sheet, and words too few for its tasks, are refused (13): the answer is 0 and no word is touched.
@@ -19,28 +18,29 @@ pub extern "C" fn cards_levels(sheet: &[u8], levels: &mut [u32]) -> usize
     ensures words { levels.new ≡ output_after (sheet_words sheet.now) levels.old }
     ensures paper { RightWords (sheet_tasks sheet.now) result levels.new }
 {
-    let given = sheet::levels(sheet);
+    let Ok(given) = sheet::levels(sheet) else {
+        return 0;
+    };
     let n = given.count;
     if levels.len() / 3 < n {
         return 0;
     }
-    put_words(given, levels);
+    put_words(&given.list[..n], levels);
     n
 }
 
 // Puts the words of the levels over the first words.
-fn put_words(given: Levels, words: &mut [u32])
-    requires { (given.count ≤ most_tasks) × (3 * given.count ≤ length words.old) }
-    ensures { words.new ≡ level_words (take given.count given.list) ++ drop (3 * given.count) words.old }
+fn put_words(given: &[Level], words: &mut [u32])
+    requires { 3 * length given.now ≤ length words.old }
+    ensures { words.new ≡ level_words given.now ++ drop (3 * length given.now) words.old }
 {
-    let n = given.count;
-    let mut i = 0;
-    while i < n {
-        let level = given.list[i];
-        words[3 * i] = level.number as u32;
-        words[3 * i + 1] = level.task as u32;
-        words[3 * i + 2] = level.transaction as u32;
-        i += 1;
+    for (i, level) in given.iter().enumerate() {
+        let three = [
+            level.number as u32,
+            level.task as u32,
+            level.transaction as u32,
+        ];
+        words[3 * i..3 * i + 3].copy_from_slice(&three);
     }
 }
 

@@ -102,19 +102,19 @@ abbrev taken_many : ℕ → ℕ
 taken_many n = length (Sheet.sheet_tasks (ascii "task core deadline cards\n" ++ many n))
 
 pub sheet-names : map taken names ≡ map told names
-unfolding Sheet.sheet_tasks Sheet.tasks_of_lines Sheet.tasks_below Sheet.gathered Sheet.task_line Sheet.task_of Sheet.spelled_task Sheet.given Sheet.card_list Sheet.rising Pieces.pieces Pieces.onto Pieces.without_last_empty Pieces.lines Fields.fields_of Fields.place Fields.places_of Fields.all_stand Fields.columns Fields.columns_of Reading.read_as_number Reading.is_number Reading.all_digits Reading.no_leading_zero Reading.value_after Objset.none Objset.added Objset.collect Objset.has Tasks.occurs
+unfolding Sheet.sheet_tasks Sheet.tasks_of_lines Sheet.tasks_below Sheet.gathered Sheet.task_line Sheet.task_of Sheet.spelled_task Sheet.goes_on Sheet.card_list Sheet.rising Pieces.pieces Pieces.onto Pieces.without_last_empty Pieces.lines Fields.fields_of Fields.place Fields.places_of Fields.all_stand Fields.columns Fields.columns_of Reading.read_as_number Reading.is_number Reading.all_digits Reading.no_leading_zero Reading.value_after Objset.none Objset.added Objset.collect Objset.has Tasks.occurs
 sheet-names = refl
 
 pub sheet-cards : map taken cards ≡ map told cards
-unfolding Sheet.sheet_tasks Sheet.tasks_of_lines Sheet.tasks_below Sheet.gathered Sheet.task_line Sheet.task_of Sheet.spelled_task Sheet.given Sheet.card_list Sheet.rising Pieces.pieces Pieces.onto Pieces.without_last_empty Pieces.lines Fields.fields_of Fields.place Fields.places_of Fields.all_stand Fields.columns Fields.columns_of Reading.read_as_number Reading.is_number Reading.all_digits Reading.no_leading_zero Reading.value_after Objset.none Objset.added Objset.collect Objset.has Tasks.occurs
+unfolding Sheet.sheet_tasks Sheet.tasks_of_lines Sheet.tasks_below Sheet.gathered Sheet.task_line Sheet.task_of Sheet.spelled_task Sheet.goes_on Sheet.card_list Sheet.rising Pieces.pieces Pieces.onto Pieces.without_last_empty Pieces.lines Fields.fields_of Fields.place Fields.places_of Fields.all_stand Fields.columns Fields.columns_of Reading.read_as_number Reading.is_number Reading.all_digits Reading.no_leading_zero Reading.value_after Objset.none Objset.added Objset.collect Objset.has Tasks.occurs
 sheet-cards = refl
 
 pub sheet-values : map taken values ≡ map told values
-unfolding Sheet.sheet_tasks Sheet.tasks_of_lines Sheet.tasks_below Sheet.gathered Sheet.task_line Sheet.task_of Sheet.spelled_task Sheet.given Sheet.card_list Sheet.rising Pieces.pieces Pieces.onto Pieces.without_last_empty Pieces.lines Fields.fields_of Fields.place Fields.places_of Fields.all_stand Fields.columns Fields.columns_of Reading.read_as_number Reading.is_number Reading.all_digits Reading.no_leading_zero Reading.value_after Objset.none Objset.added Objset.collect Objset.has Tasks.occurs
+unfolding Sheet.sheet_tasks Sheet.tasks_of_lines Sheet.tasks_below Sheet.gathered Sheet.task_line Sheet.task_of Sheet.spelled_task Sheet.goes_on Sheet.card_list Sheet.rising Pieces.pieces Pieces.onto Pieces.without_last_empty Pieces.lines Fields.fields_of Fields.place Fields.places_of Fields.all_stand Fields.columns Fields.columns_of Reading.read_as_number Reading.is_number Reading.all_digits Reading.no_leading_zero Reading.value_after Objset.none Objset.added Objset.collect Objset.has Tasks.occurs
 sheet-values = refl
 
 pub sheet-tasks : map taken_many (1 ∷ 32 ∷ 33 ∷ []) ≡ 1 ∷ 32 ∷ 0 ∷ []
-unfolding Sheet.sheet_tasks Sheet.tasks_of_lines Sheet.tasks_below Sheet.gathered Sheet.task_line Sheet.task_of Sheet.spelled_task Sheet.given Sheet.card_list Sheet.rising Pieces.pieces Pieces.onto Pieces.without_last_empty Pieces.lines Fields.fields_of Fields.place Fields.places_of Fields.all_stand Fields.columns Fields.columns_of Reading.read_as_number Reading.is_number Reading.all_digits Reading.no_leading_zero Reading.value_after Objset.none Objset.added Objset.collect Objset.has Tasks.occurs Spelling.spelling Spelling.spelling_in
+unfolding Sheet.sheet_tasks Sheet.tasks_of_lines Sheet.tasks_below Sheet.gathered Sheet.task_line Sheet.task_of Sheet.spelled_task Sheet.goes_on Sheet.card_list Sheet.rising Pieces.pieces Pieces.onto Pieces.without_last_empty Pieces.lines Fields.fields_of Fields.place Fields.places_of Fields.all_stand Fields.columns Fields.columns_of Reading.read_as_number Reading.is_number Reading.all_digits Reading.no_leading_zero Reading.value_after Objset.none Objset.added Objset.collect Objset.has Tasks.occurs Spelling.spelling Spelling.spelling_in
 sheet-tasks = refl
 
 -- ---- a line of so many bytes: four fields, the last of them long

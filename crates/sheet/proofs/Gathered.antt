@@ -15,7 +15,7 @@ use Rattle.objset.specs.Words.{Words}
 use Rattle.objset.proofs.Laws.{none-zero, added-fits}
 use Rattle.taskset.specs.declared.Task.{Task}
 use Rattle.taskset.specs.Tasks.{most_tasks, last_core, occurs, all_differ, cores_exist, numbers_of, cards_of, is_task_set}
-use Rattle.sheet.specs.Sheet.{rising, comma_list, card_list, given, spelled_task, task_of, task_line, gathered, tasks_below, tasks_of_lines, sheet_tasks, last_task}
+use Rattle.sheet.specs.Sheet.{rising, comma_list, card_list, goes_on, spelled_task, task_of, task_line, gathered, tasks_below, tasks_of_lines, sheet_tasks, last_task}
 
 -- ---- the cards of a task are a set
 
@@ -50,15 +50,15 @@ abbrev Fit : Option Task → Type 0
 Fit (Some t) = (t.core ≤ last_core) × (t.cards < 2 ^ 64)
 Fit None = Unit {0}
 
-given-fits : (r : Option ℕ) (k : ℕ → Option Task) → ((n : ℕ) → Fit (k n)) → Fit (given r k)
-unfolding given
-given-fits None k h = tt
-given-fits (Some n) k h = h n
+goes-on-fits : (r : Option ℕ) (k : ℕ → Option Task) → ((n : ℕ) → Fit (k n)) → Fit (goes_on r k)
+unfolding goes_on
+goes-on-fits None k h = tt
+goes-on-fits (Some n) k h = h n
 
-given-set : (r : Option ℕ) (k : ℕ → Option Task) → AreSet r → ((s : ℕ) → s < 2 ^ 64 → Fit (k s)) → Fit (given r k)
-unfolding given
-given-set None k set h = tt
-given-set (Some s) k set h = h s set
+goes-on-set : (r : Option ℕ) (k : ℕ → Option Task) → AreSet r → ((s : ℕ) → s < 2 ^ 64 → Fit (k s)) → Fit (goes_on r k)
+unfolding goes_on
+goes-on-set None k set h = tt
+goes-on-set (Some s) k set h = h s set
 
 spelled-fits : (t c d s : ℕ) → s < 2 ^ 64 → Fit (spelled_task t c d s)
 unfolding spelled_task
@@ -71,7 +71,7 @@ spelled-fits t c d s fits = go (leb t last_task) (leb c last_core) refl
 
 line-fits : (at line : List ℕ) → Fit (task_line at line)
 unfolding task_line task_of
-line-fits at line = given-fits _ _ (λ t. given-fits _ _ (λ c. given-fits _ _ (λ d. given-set _ _ (cards-set _) (λ s h. spelled-fits t c d s h))))
+line-fits at line = goes-on-fits _ _ (λ t. goes-on-fits _ _ (λ c. goes-on-fits _ _ (λ d. goes-on-set _ _ (cards-set _) (λ s h. spelled-fits t c d s h))))
 
 -- ---- a task more
 

@@ -14,7 +14,7 @@ use Rattle.table.specs.Pieces.{onto, pieces, without_last_empty, lines}
 use Rattle.table.specs.Fields.{fields_of, all_stand, columns, columns_of, place}
 use Rattle.taskset.specs.declared.Task.{Task}
 use Rattle.taskset.specs.Tasks.{most_tasks, occurs, numbers_of}
-use Rattle.sheet.specs.Sheet.{longest_line, longest_sheet, sheet_names, given, task_of, task_line, gathered, tasks_below, tasks_of_lines, sheet_tasks}
+use Rattle.sheet.specs.Sheet.{longest_line, longest_sheet, sheet_names, goes_on, task_of, task_line, gathered, tasks_below, tasks_of_lines, sheet_tasks}
 
 -- ---- the bytes of lines, each with a newline
 
@@ -62,7 +62,7 @@ unfolding fields_of
 no_fields count line h = rw (lt-leb (length line) longest_line h)
 
 long-task : (at line : List ℕ) → longest_line < length line → task_line at line ≡ None
-unfolding task_line task_of given read_as_number is_number all_digits no_leading_zero
+unfolding task_line task_of goes_on read_as_number is_number all_digits no_leading_zero
 long-task at line h = rw (no_fields 4 line h)
 
 long-names : (line : List ℕ) → longest_line < length line → columns_of sheet_names longest_line line ≡ []

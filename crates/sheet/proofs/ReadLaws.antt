@@ -58,9 +58,6 @@ module _ (bytes : List ℕ) (first : ℕ) (at : List ℕ) where
     pub blank : drop n tasks ≡ replicate (most_tasks - n) no_task
     pub decide : gathered_from (take n tasks) from ≡ whole
 
-  pub reads_none : Reads (replicate most_tasks no_task) 0 first
-  reads_none = record { few = omega arith; size = refl; blank = refl; decide = refl }
-
   module _ {tasks : List Task} {n from : ℕ} (st : Reads tasks n from) where
     long : length (take n tasks) ≡ n
     long = length-take-le n tasks (omega (arith, st.few, st.size))

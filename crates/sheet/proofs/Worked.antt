@@ -24,7 +24,7 @@ six_tasks =
     ∷ record { number = 6; core = 5; deadline = 60; cards = 0 } ∷ []
 
 pub shipped-tasks : Sheet.sheet_tasks shipped_sheet ≡ six_tasks
-unfolding Sheet.sheet_tasks Sheet.tasks_of_lines Sheet.tasks_below Sheet.gathered Sheet.task_line Sheet.task_of Sheet.spelled_task Sheet.given Sheet.card_list Sheet.rising Pieces.pieces Pieces.onto Pieces.without_last_empty Pieces.lines Fields.fields_of Fields.place Fields.places_of Fields.all_stand Fields.columns Fields.columns_of Reading.read_as_number Reading.is_number Reading.all_digits Reading.no_leading_zero Reading.value_after Objset.none Objset.added Objset.collect Objset.has Tasks.occurs
+unfolding Sheet.sheet_tasks Sheet.tasks_of_lines Sheet.tasks_below Sheet.gathered Sheet.task_line Sheet.task_of Sheet.spelled_task Sheet.goes_on Sheet.card_list Sheet.rising Pieces.pieces Pieces.onto Pieces.without_last_empty Pieces.lines Fields.fields_of Fields.place Fields.places_of Fields.all_stand Fields.columns Fields.columns_of Reading.read_as_number Reading.is_number Reading.all_digits Reading.no_leading_zero Reading.value_after Objset.none Objset.added Objset.collect Objset.has Tasks.occurs
 shipped-tasks = refl
 
 -- the cards of each task's group: 3; 1 and 2; 1 and 2; 1 and 2; 3; none

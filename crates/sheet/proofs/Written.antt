@@ -19,7 +19,7 @@ use Rattle.table.specs.Fields.{fields_of, place, places_of, all_stand, columns, 
 use Rattle.table.proofs.Laws.{first, others, pieces-begun, pieces-cut, lines-empty, lines-newline}
 use Rattle.taskset.specs.declared.Task.{Task}
 use Rattle.taskset.specs.Tasks.{most_tasks, last_core, occurs, all_differ, cores_exist, numbers_of, is_task_set}
-use Rattle.sheet.specs.Sheet.{longest_line, sheet_names, last_task, given, task_of, task_line, gathered, tasks_below, tasks_of_lines, sheet_tasks}
+use Rattle.sheet.specs.Sheet.{longest_line, sheet_names, last_task, goes_on, task_of, task_line, gathered, tasks_below, tasks_of_lines, sheet_tasks}
 use Rattle.sheet.proofs.LineLaws.{is-task}
 use Rattle.sheet.proofs.CardsWritten.{cards_written, cards-read, cards-within, cards-length, spelling-within, within, within-one, within_both, within_wider, within-free}
 
@@ -105,7 +105,7 @@ module _ (t : Task) (in-types : FieldsInTypes t) (core-exists : t.core ≤ last_
   line-fields = rw (le-leb (length (task_written t)) longest_line line-short, line-pieces)
 
   line_read : task_line (0 ∷ 1 ∷ 2 ∷ 3 ∷ []) (task_written t) ≡ Some t
-  unfolding task_line task_of given
+  unfolding task_line task_of goes_on
   line_read =
       rw (
         line-fields,

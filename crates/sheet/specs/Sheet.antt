@@ -44,9 +44,9 @@ card_list field = cond (bytes_eq field (ascii "-")) (Some none) (rising 0 none (
 -- ---- a line of a task
 
 -- what a field reads as: the line goes on with it, and is malformed where the field is
-unfoldable pub given : Option ℕ → (ℕ → Option Task) → Option Task
-given None k = None
-given (Some n) k = k n
+unfoldable pub goes_on : Option ℕ → (ℕ → Option Task) → Option Task
+goes_on None k = None
+goes_on (Some n) k = k n
 
 -- the task of a number, a core, a deadline and a set of cards; none where the number or the core is too large
 unfoldable pub spelled_task : ℕ → ℕ → ℕ → ℕ → Option Task
@@ -55,8 +55,8 @@ spelled_task t c d s = cond (leb t last_task && leb c last_core) (Some (record {
 -- the task that four fields spell, the names standing in these columns; the columns are those of task, core, deadline and cards
 unfoldable pub task_of : List ℕ → List (List ℕ) → Option Task
 task_of at fs =
-    given (read_as_number (get_or fs (get_or at 0 0) [])) (λ t. given (read_as_number (get_or fs (get_or at 1 0) [])) (λ c.
-    given (read_as_number (get_or fs (get_or at 2 0) [])) (λ d. given (card_list (get_or fs (get_or at 3 0) [])) (λ s. spelled_task t c d s))))
+    goes_on (read_as_number (get_or fs (get_or at 0 0) [])) (λ t. goes_on (read_as_number (get_or fs (get_or at 1 0) [])) (λ c.
+    goes_on (read_as_number (get_or fs (get_or at 2 0) [])) (λ d. goes_on (card_list (get_or fs (get_or at 3 0) [])) (λ s. spelled_task t c d s))))
 
 -- a line has four fields and at most 1,024 bytes
 unfoldable pub task_line : List ℕ → List ℕ → Option Task

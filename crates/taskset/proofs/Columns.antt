@@ -1,29 +1,13 @@
 -- A row filled entry by entry: the first i entries are those of the list that it is to hold.
 use mathlib.Core.Path.{◌≡◌, refl, sym, ap, ◌∙◌}
 use mathlib.Core.List.{List, [], ◌∷◌, ◌++◌, map}
-use Prim.Native.Nat.{ℕ, zero, suc, ◌+◌, ◌-◌, ◌≤◌, ◌<◌}
+use Prim.Native.Nat.{ℕ, zero, suc, ◌+◌, ◌-◌, ◌<◌}
 use native.Mathlib.Numerals.{add-one}
 use native.Mathlib.Nat.{zero-add}
 use native.Mathlib.Omega.{arith}
-use lib.ListN.{length, length-append, length-drop, get_or, set, take, drop, replicate}
-use lib.Seq.{take-suc, take-suc-set, take_all, paste-suc, drop-cons, get_or_at, length-take-le}
+use lib.ListN.{length, get_or, set, take, drop, replicate}
+use lib.Seq.{take_all, paste-suc, drop-cons, get_or_at, length-take-le}
 use Rattle.taskset.specs.Tasks.{most_tasks}
-
-module _ {A : Type 0} (whole : List A) (i : ℕ) where
-  -- a turn of the loop
-  pub row_next : (row : List A) (v d : A) → i < length row → i < length whole → v ≡ get_or whole i d → take i row ≡ take i whole
-      → take (i + 1) (set row i v) ≡ take (i + 1) whole
-  row_next row v d h k e so_far =
-      ap (λ (n : ℕ). take n (set row i v)) (add-one i)
-      ∙ take-suc-set row i v h
-      ∙ ap (λ (r : List A). r ++ (v ∷ [])) so_far
-      ∙ ap (λ (x : A). take i whole ++ (x ∷ [])) e
-      ∙ sym (take-suc whole i d k)
-      ∙ ap (λ (n : ℕ). take n whole) (sym (add-one i))
-
-  -- after the last turn
-  pub row-all : (row : List A) → length whole ≤ i → take i row ≡ take i whole → take i row ≡ whole
-  row-all row h e = e ∙ take_all i whole h
 
 -- ---- a row filled over what it held
 
@@ -48,9 +32,6 @@ module _ {A : Type 0} (blank : List A) where
   listed-at whole row i d h k so_far =
       ap (λ (r : List A). get_or r i d) (so_far ∙ ap (λ (r : List A). take i whole ++ r) (drop-cons blank i d k))
       ∙ get_or_at (take i whole) (get_or blank i d) (drop (suc i) blank) d i (length-take-le i whole (omega arith))
-
-  pub listed-long : (whole : List A) (i : ℕ) → i ≤ length whole → i ≤ length blank → length (listed i whole) ≡ length blank
-  listed-long whole i h k = length-append (take i whole) (drop i blank) ∙ omega (arith, length-take-le i whole h, length-drop i blank)
 
 -- ---- a row of 32 entries that were all alike
 

@@ -39,9 +39,6 @@ module _ (xs : List ℕ) (i : ℕ) (first : 0 < i) (within : i ≤ length xs) wh
     long : length (take (i - 1) xs) ≡ i - 1
     long = length-take-le (i - 1) xs (omega arith)
 
-    pub last_within : i - 1 < length (take i xs ++ rest)
-    last_within = omega (arith, length-append (take i xs) rest, length-take-le i xs within)
-
     pub last-at : get_or (take i xs ++ rest) (i - 1) 0 ≡ get_or xs (i - 1) 0
     last-at = ap (λ (l : List ℕ). get_or l (i - 1) 0) split ∙ get_or_at (take (i - 1) xs) (get_or xs (i - 1) 0) rest 0 (i - 1) long
 

@@ -1,13 +1,13 @@
 -- Which tasks are a task set, test by test; the tasks that stand in one by value.
 use mathlib.Core.Path.{◌≡◌, refl, sym, ap, ◌∙◌}
 use mathlib.Core.Bool.{Bool, true, false, ◌&&◌, true≢false}
-use mathlib.Core.List.{List, [], ◌∷◌, map}
-use Prim.Native.Nat.{ℕ, ◌-◌, ◌≤◌, ◌<◌}
+use mathlib.Core.List.{List, [], ◌∷◌}
+use Prim.Native.Nat.{◌-◌, ◌≤◌, ◌<◌}
 use native.Mathlib.Omega.{arith}
 use lib.Dec.{leb, ltb}
-use lib.ListN.{length, length-map, length-take, get_or, take, replicate}
-use lib.Seq.{take-append_seam, length-take-le, get_or-take}
-use borrow.Author.Tests.{le-leb, lt-leb, lt-ltb, leb-true, leb-false, ltb-true}
+use lib.ListN.{length, take, replicate}
+use lib.Seq.{take-append_seam, length-take-le}
+use borrow.Author.Tests.{le-leb, lt-leb, lt-ltb, leb-true, ltb-true}
 use Rattle.std.specs.List.{list_all}
 use Rattle.std.specs.Prelude.{Result, Ok, Err, IsErr}
 use Rattle.taskset.specs.declared.NotTasks.{NotTasks}
@@ -29,16 +29,6 @@ module _ (s : TaskSet) where
 
   pub standing-long : length s.tasks ≡ most_tasks → s.count ≤ most_tasks → length (standing s) ≡ s.count
   standing-long size h = ap (λ (ts : List Task). length ts) (standing-few h) ∙ length-take-le s.count s.tasks (omega arith)
-
-  pub standing-at : s.count ≤ most_tasks → (i : ℕ) → i < s.count → get_or (standing s) i no_task ≡ get_or s.tasks i no_task
-  standing-at h i l = ap (λ (ts : List Task). get_or ts i no_task) (standing-few h) ∙ get_or-take s.count s.tasks i no_task l
-
-  -- a row whose first entries are one number of each task
-  pub column-long : {A : Type 0} (f : Task → A) → length s.tasks ≡ most_tasks → s.count ≤ most_tasks → (row : List A)
-      → take s.count row ≡ map f (standing s) → (length (take s.count row) ≡ s.count) × (s.count ≤ length row)
-  column-long {A = A} f size h row e =
-      let long : length (take s.count row) ≡ s.count = ap (λ (r : List A). length r) e ∙ length-map (standing s) f ∙ standing-long size h in
-      (long, omega (arith, long, length-take s.count row))
 
 -- packed into one by value, at most 32 tasks stand as they were
 pub standing-packed : (ts : List Task) → length ts ≤ most_tasks → standing (packed ts) ≡ ts
@@ -81,13 +71,6 @@ module _ (ts : List Task) where
   set-differ h l e = rw (lt-ltb 0 (length ts) h, le-leb (length ts) most_tasks l, e)
 
 -- a task set has at most 32 tasks
-pub set-few : (s : TaskSet) → is_task_set (standing s) ≡ true → s.count ≤ most_tasks
-set-few s e = go (leb s.count most_tasks) refl
-  where
-    go : (t : Bool) → leb s.count most_tasks ≡ t → s.count ≤ most_tasks
-    go true t = leb-true s.count most_tasks t
-    go false t = absurd (true≢false (sym e ∙ ap is_task_set (standing-none s (leb-false s.count most_tasks t)) ∙ none-set))
-
 pub set-most : (ts : List Task) → is_task_set ts ≡ true → length ts ≤ most_tasks
 unfolding is_task_set
 set-most ts e =

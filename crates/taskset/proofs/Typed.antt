@@ -1,4 +1,4 @@
--- What the types of the code say of a task set and of levels by value, whatever their fields hold. `Is` is what a function is told of a parameter that
+-- What the types of the code say of a task set by value, whatever its fields hold. `Is` is what a function is told of a parameter that
 -- it owns.
 use mathlib.Core.Path.{◌≡◌}
 use mathlib.Core.Bool.{Bool, true, false, cond}
@@ -13,11 +13,9 @@ use denote.Array.{each}
 use Rattle.objset.specs.Words.{Words}
 use Rattle.taskset.specs.declared.Task.{Task}
 use Rattle.taskset.specs.declared.TaskSet.{TaskSet}
-use Rattle.taskset.specs.declared.Levels.{Levels}
 use Rattle.taskset.specs.Tasks.{most_tasks, cards_of, standing}
 use Rattle.taskset.specs.contracts.Task as TaskType
 use Rattle.taskset.specs.contracts.TaskSet as TaskSetType
-use Rattle.taskset.specs.contracts.Levels as LevelsType
 
 pub tasks-long : (s : TaskSet) (vs : List Val) → Is (TaskSetType.the_field).row ((TaskSetType.the_field).into s) vs → length s.tasks ≡ most_tasks
 tasks-long s vs p = p.1.1.0.1.0.1
@@ -44,6 +42,3 @@ standing-words s vs p = go (leb s.count most_tasks) (words-first s.count s.tasks
     go : (b : Bool) → Words (cards_of (take s.count s.tasks)) → Words (cards_of (cond b (take s.count s.tasks) []))
     go true w = w
     go false w = tt
-
-pub levels_long : (l : Levels) (vs : List Val) → Is (LevelsType.the_field).row ((LevelsType.the_field).into l) vs → length l.list ≡ most_tasks
-levels_long l vs p = p.1.1.0.1.0.1
