@@ -15,13 +15,13 @@ const ROOM: usize = CHUNK * runner::LINE_ROOM;
 fn main(rt: HostRuntime) {
     if terminal::has_argument(&rt) {
         let _ = rt.eprintln("cards: usage: cards < SCRIPT > LISTING");
-    } else if let Err(failure) = list(&rt) {
+    } else if let Err(failure) = run(&rt) {
         let _ = eprintln!(rt; "cards: {failure}");
     }
 }
 
-// Lists what the script on standard input is answered, to its end, or until nothing more is read.
-fn list(rt: &(impl Input + Print)) -> Result<(), Failure> {
+// Runs the script on standard input to its end, or until nothing more is read, and prints its listing.
+fn run(rt: &(impl Input + Print)) -> Result<(), Failure> {
     let mut committed = [0u32; runner::COMMITTED_WORDS];
     let mut pending = [0u32; runner::PENDING_WORDS];
     let mut output = [0u8; ROOM];

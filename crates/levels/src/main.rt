@@ -13,13 +13,13 @@ use text::{ROOM, put_sheet};
 fn main(rt: HostRuntime) {
     if terminal::has_argument(&rt) {
         let _ = rt.eprintln("levels: usage: levels < SHEET > LEVELS");
-    } else if let Err(failure) = print_levels(&rt) {
+    } else if let Err(failure) = run(&rt) {
         let _ = eprintln!(rt; "levels: {failure}");
     }
 }
 
 // Reads standard input to its end, or until the input is full, and prints what it is answered.
-fn print_levels(rt: &(impl Input + Print)) -> Result<(), Failure> {
+fn run(rt: &(impl Input + Print)) -> Result<(), Failure> {
     let mut input = [0u8; LONGEST_SHEET + 1];
     let mut output = [0u8; ROOM];
     let n = terminal::fill(&mut rt.reader(), &mut input).map_err(Failure::Read)?;

@@ -9,7 +9,7 @@ use std::io;
 use std::io::Read;
 use thiserror::Error;
 
-// Why a run ends before its input does, in the words for it.
+// Why a run ends early, and the words for it.
 #[derive(Debug, Drop, Error)]
 pub enum Failure {
     #[error("read: {0}")]

@@ -1,7 +1,7 @@
 -- The reading fits its tables, and the buffers keep their lengths.
 use Rattle.std.proofs.Common.{◌≡◌, length}
 use Rattle.runner.specs.Kept.{ReadingFits}
-use Rattle.cards.proofs.list.Given as goal
+use Rattle.cards.proofs.run.Given as goal
 
 abbrev pub invariant-loop : goal.invariant-loop
 invariant-loop g l =

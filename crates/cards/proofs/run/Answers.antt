@@ -3,7 +3,7 @@ use Rattle.std.proofs.Common.{length, refl, sym, ap, ◌∙◌, arith, length-ta
 use Rattle.listing.specs.Text.{heading}
 use Rattle.listing.proofs.Laws.{fitting-whole}
 use Rattle.runner.proofs.Laws.{start-fit}
-use Rattle.cards.proofs.list.Goals as goal
+use Rattle.cards.proofs.run.Goals as goal
 
 pub slice_bounds-output-end : goal.slice_bounds-output-end
 slice_bounds-output-end g c =
