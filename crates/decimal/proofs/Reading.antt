@@ -1,7 +1,7 @@
 -- What decides how a field reads: three tests, its digits one by one, and the number that they come to.
 use mathlib.Core.Path.{◌≡◌, refl, sym, ◌∙◌, ap}
 use mathlib.Core.Logic.{dite}
-use mathlib.Core.Bool.{Bool, true, false, cond, ◌&&◌, and-eq-true_iff}
+use mathlib.Core.Bool.{and-false, Bool, true, false, cond, ◌&&◌, and-eq-true_iff}
 use mathlib.Core.List.{List, [], ◌∷◌}
 use Prim.Native.Nat.{ℕ, ◌+◌, ◌-◌, ◌*◌, ◌≤◌, ◌<◌}
 use native.Mathlib.Decide.{dec_lt}
@@ -40,10 +40,6 @@ value_grows n [] = omega arith
 value_grows n (b ∷ bs) = omega (arith, value_grows (n * 10 + (b - 48)) bs)
 
 -- ---- a field is malformed by any one of three tests, and a number by all
-
-and-false : (t : Bool) → (t && false) ≡ false
-and-false true = refl
-and-false false = refl
 
 no-digits : (field : List ℕ) → all_digits field ≡ false → read_as_number field ≡ None
 unfolding read_as_number is_number

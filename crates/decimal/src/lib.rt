@@ -101,5 +101,6 @@ fn fill(n: u32, k: usize, scratch: &mut [u8])
         scratch[i] = b'0' + (rest % 10) as u8;
         rest /= 10;
     }
+    // the first digit is what is left, with no division
     scratch[0] = b'0' + rest as u8;
 }

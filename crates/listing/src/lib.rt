@@ -90,7 +90,7 @@ pub fn put_number(n: u32, output: &mut [u8], at: usize) -> usize
 {
     let mut scratch = [0u8; 10];
     let digits = decimal::print(n, &mut scratch);
-    // a single digit is copied by itself: of the loop in put_bytes the compiler makes a call of memcpy
+    // a single digit is copied by itself: a copy whose length is not known is a call of memcpy
     if digits.len() == 1 {
         let digit = [digits[0]];
         return put_bytes(output, at, &digit);

@@ -1,7 +1,7 @@
 -- What a caller knows of the fields that were found in a line.
 use mathlib.Core.Path.{◌≡◌, refl, sym, ap, ◌∙◌}
 use mathlib.Core.Logic.{◌⊎◌, inl, inr, ⊎_elim}
-use mathlib.Core.Bool.{Bool, true, false, cond, ◌&&◌, and-eq-true_iff, false≢true}
+use mathlib.Core.Bool.{and-false, Bool, true, false, cond, ◌&&◌, and-eq-true_iff, false≢true}
 use mathlib.Core.List.{List, []}
 use Prim.Native.Nat.{ℕ, suc, ◌+◌, ◌-◌, ◌≤◌, ◌<◌}
 use native.Mathlib.Numerals.{add-one}
@@ -19,10 +19,6 @@ use Rattle.table.proofs.Laws.{some-piece}
 use Rattle.table.proofs.PieceEnds.{bytes_between}
 use Rattle.table.proofs.Begins.{begin, more, nth-field, rising, nth-begin, how-many-begin}
 use Rattle.table.proofs.Filling.{filled_in}
-
-and-false : (t : Bool) → (t && false) ≡ false
-and-false true = refl
-and-false false = refl
 
 -- ---- the fields of a line are all its pieces, or there are none
 

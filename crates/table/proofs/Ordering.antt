@@ -1,7 +1,7 @@
 -- What a caller knows of where names stand in a line of names, and how that is found, name by name.
 use mathlib.Core.Path.{◌≡◌, refl, sym, ap, ◌∙◌}
 use mathlib.Core.Logic.{◌⊎◌, inl, inr, ⊎_elim, dite}
-use mathlib.Core.Bool.{Bool, true, false, ◌&&◌}
+use mathlib.Core.Bool.{and-false, true}
 use mathlib.Core.List.{List, [], ◌∷◌, ◌++◌}
 use Prim.Native.Nat.{ℕ, ◌+◌, ◌≤◌, ◌<◌}
 use native.Mathlib.Decide.{dec_lt}
@@ -19,10 +19,6 @@ use Rattle.table.proofs.Laws.{first, others, some-piece}
 use Rattle.table.proofs.Cuts.{so-many, at_most, cut-none, cut_found, fielded, how-many, fields-found, how-many-found}
 use Rattle.table.proofs.Filling.{fill-next, filled_in}
 use Rattle.table.proofs.Places.{places-one-more, how-many-places, stand-one-more, each_stands, nth-place, all-columns, placed-or-not, none-stand}
-
-and-false : (t : Bool) → (t && false) ≡ false
-and-false true = refl
-and-false false = refl
 
 -- ---- the places as they are held
 

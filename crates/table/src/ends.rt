@@ -16,6 +16,7 @@ pub fn piece_end(line: &[u8], from: usize, at: u8) -> usize
 }
 
 // Where the field that begins at a place ends: at the first space from there on, or at the line's end.
+#[tactic(auto, unfolding(crate::specs::Fields::field_end))]
 pub(crate) fn field_end(line: &[u8], from: usize) -> usize
     ensures { result ≡ field_end line.now from }
 {

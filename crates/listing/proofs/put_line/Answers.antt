@@ -5,7 +5,7 @@ use Rattle.decimal.specs.Spelling.{spelling}
 use Rattle.decimal.proofs.Laws.{spelling-length}
 use Rattle.one_core.specs.declared.Answer.{Answer}
 use Rattle.listing.specs.Text.{spaced, value_text, said, line}
-use Rattle.listing.proofs.Laws.{line-short, spaced-short, value-short, nothing_put, Stands, stands-none, stands-next, stands-length, stands-put}
+use Rattle.listing.proofs.Laws.{line-short, spaced-short, value-short, nothing_put, Stands, stands-none, stands-next, stands-put}
 use Rattle.listing.proofs.put_line.Goals as goal
 use Rattle.listing.proofs.put_line.Goals.{After-put_bytes, After-put_bytes-k, After-put_field-k, After-put_number-k, After-said_of-said, Start}
 
@@ -107,13 +107,6 @@ pub overflow_add-k : goal.overflow_add-k
 overflow_add-k c =
     let args = (of_word (goal.at.overflow_add-k c).After-put_bytes-k).args in
     omega (arith, (word_stands (goal.at.overflow_add-k c).After-put_bytes-k).count, to-word-short args.number args.answer)
-
-pub put_field-k-requires : goal.put_field-k-requires
-put_field-k-requires c =
-    let done = word_stands (goal.at.put_field-k-requires c).After-put_bytes-k in
-    let args = (of_word (goal.at.put_field-k-requires c).After-put_bytes-k).args in
-    let short = to-word-short args.number args.answer in
-    omega (arith, done.count, stands-length done (omega arith))
 
 pub overflow_add-k-2 : goal.overflow_add-k-2
 overflow_add-k-2 c =

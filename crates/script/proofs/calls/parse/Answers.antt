@@ -1,15 +1,11 @@
 -- `script::calls::parse` meets its contract: each part is the field that the definition takes, and `spelt` says what they spell.
 use mathlib.Core.Path.{refl, sym, ◌∙◌}
-use Rattle.table.proofs.Cuts.{fielded}
 use Rattle.script.specs.Line.{whole}
 use Rattle.script.proofs.Parts.{no_fields-spelled, parts-spelled}
 use Rattle.script.proofs.calls.parse.Goals as goal
 
 pub returns-in_err-f : goal.returns-in_err-f
 returns-in_err-f c = c.from_residual.ensures ∙ sym (no_fields-spelled c.args.at c.args.line.now c.in_err-f.ensures)
-
-pub part-requires : goal.part-requires
-part-requires c = fielded _ _ _ (sym c.in_ok-f.ensures)
 
 pub returns-in_err-called : goal.returns-in_err-called
 unfolding whole

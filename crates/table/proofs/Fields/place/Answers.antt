@@ -12,12 +12,6 @@ use Rattle.table.proofs.Cuts.{how-many-found}
 use Rattle.table.proofs.Places.{found, passed, nowhere}
 use Rattle.table.proofs.Fields.place.Goals as goal
 
-pub loop-i-init : goal.loop-i-init
-loop-i-init c = omega arith
-
-pub part-requires : goal.part-requires
-part-requires c = c.requires
-
 pub returns-then-eq : goal.returns-then-eq
 returns-then-eq c =
     let fs = fields_by c.args.self c.args.line.now in

@@ -35,34 +35,10 @@ loop-i-init c = refl
 few : (c : At-loop-i) → c.args.count ≤ most_fields
 few c = omega (arith, ltb-false)
 
-pub overflow_sub-i : goal.overflow_sub-i
-overflow_sub-i c = omega arith
-
-pub offset_bounds-begins-i : goal.offset_bounds-begins-i
-offset_bounds-begins-i c = omega (arith, few (goal.at.offset_bounds-begins-i c).At-loop-i)
-
-pub bounds-begins-i : goal.bounds-begins-i
-bounds-begins-i c = omega (arith, few (goal.at.bounds-begins-i c).At-loop-i)
-
-pub offset_bounds-begins-i-in-loop-i : goal.offset_bounds-begins-i-in-loop-i
-offset_bounds-begins-i-in-loop-i c = omega (arith, few (goal.at.offset_bounds-begins-i-in-loop-i c).At-loop-i)
-
-pub bounds-begins-i-in-loop-i : goal.bounds-begins-i-in-loop-i
-bounds-begins-i-in-loop-i c = omega (arith, few (goal.at.bounds-begins-i-in-loop-i c).At-loop-i)
-
 pub loop-i-preserved : goal.loop-i-preserved
 loop-i-preserved c =
     next-added c.args.line.now c.loop-i.begins c.loop-i.i (omega arith)
     (omega (arith, few (goal.at.loop-i-preserved c).At-loop-i)) c.loop-i.invariant c.next_from.result c.next_from.ensures
-
-pub overflow_sub-last : goal.overflow_sub-last
-overflow_sub-last c = omega arith
-
-pub offset_bounds-begins-count : goal.offset_bounds-begins-count
-offset_bounds-begins-count c = omega (arith, few (goal.at.offset_bounds-begins-count c).At-loop-i)
-
-pub bounds-begins-count : goal.bounds-begins-count
-bounds-begins-count c = omega (arith, few (goal.at.bounds-begins-count c).At-loop-i)
 
 -- after the loop all the fields that were asked for have a beginning
 abbrev L : After-loop-i → List ℕ
@@ -88,15 +64,6 @@ returns-then-line-last c =
       | then-line-last-via-then-line-last w ↦ fewer c.args.longest (N at) (L at) short (omega arith) _ (last at) w.if-line-last.true
       | then-line-last-via-else-line-last+then-end_from-line w ↦ over c.args.longest (N at) (L at) short (omega arith) _ (last at) w.if-line-last.false (omega (arith, w.if-end_from-line.true, w.end_from.ensures))
     ])
-
-pub overflow_add-begins : goal.overflow_add-begins
-overflow_add-begins c = omega arith
-
-pub offset_bounds-begins-count-2 : goal.offset_bounds-begins-count-2
-offset_bounds-begins-count-2 c = omega (arith, few (goal.at.offset_bounds-begins-count-2 c).At-loop-i)
-
-pub bounds-begins-count-2 : goal.bounds-begins-count-2
-bounds-begins-count-2 c = omega (arith, few (goal.at.bounds-begins-count-2 c).At-loop-i)
 
 pub returns : goal.returns
 unfolding marked

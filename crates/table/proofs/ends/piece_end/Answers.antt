@@ -1,13 +1,10 @@
 -- `table::ends::piece_end` meets its contract. The loop's invariant: the piece ends where it does from `i` on.
-use mathlib.Core.Path.{refl, sym, ◌∙◌}
+use mathlib.Core.Path.{sym, ◌∙◌}
 use Prim.Native.Nat.{◌≤◌}
 use native.Mathlib.Omega.{arith}
 use lib.ListN.{length}
 use Rattle.table.proofs.PieceEnds.{ends-here, goes_on, line-ends}
 use Rattle.table.proofs.ends.piece_end.Goals as goal
-
-pub loop-i-init : goal.loop-i-init
-loop-i-init c = (refl, omega arith)
 
 pub returns-then-line-i : goal.returns-then-line-i
 returns-then-line-i c =

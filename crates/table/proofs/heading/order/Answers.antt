@@ -3,7 +3,7 @@ use mathlib.Core.Path.{refl, sym, ◌∙◌}
 use native.Mathlib.Omega.{arith}
 use Rattle.table.specs.Fields.{places_of, all_stand}
 use Rattle.table.specs.Cut.{filled}
-use Rattle.table.proofs.Cuts.{fielded, room}
+use Rattle.table.proofs.Cuts.{room}
 use Rattle.table.proofs.Ordering.{names-uncut, line-uncut, name-placed, name-stands, name-missing, names-placed}
 use Rattle.table.proofs.heading.order.Goals as goal
 
@@ -20,12 +20,6 @@ returns-in_err-f c =
 pub loop-i-init : goal.loop-i-init
 unfolding filled places_of all_stand
 loop-i-init c = (refl, refl)
-
-pub part-requires : goal.part-requires
-part-requires c = fielded _ _ _ (sym c.in_ok-wanted.ensures)
-
-pub place-requires : goal.place-requires
-place-requires c = fielded _ _ _ (sym c.in_ok-f.ensures)
 
 pub returns-in_err-places : goal.returns-in_err-places
 returns-in_err-places c =
