@@ -21,6 +21,7 @@ pub use tasks::{LAST_CORE, is_task_set};
 pub const TASKS: usize = 32;
 
 // One task: its number, the core that it runs on, its relative deadline, and the set of objects (paper 2: cards) that its transaction uses.
+// The default stands where there is no task.
 #[derive(Clone, Copy, Default)]
 pub struct Task {
     pub number: u16,
@@ -36,7 +37,7 @@ pub struct TaskSet {
     pub count: usize,
 }
 
-// The levels of one task: the task's own, and its transaction's.
+// The levels of one task: the task's own, and its transaction's. The default stands where there is no task.
 #[derive(Clone, Copy, Default)]
 pub struct Level {
     pub number: u16,
