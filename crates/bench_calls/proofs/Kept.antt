@@ -1,13 +1,14 @@
--- A good world stays good where its tables change and keep their lengths, and after a call that concerns one core.
-use Rattle.std.proofs.Common.{◌≡◌, ℕ, List, length, ◌∙◌}
+-- A good world stays good where its tables change and keep their lengths, and after a call in place.
+use Rattle.std.proofs.Common.{◌≡◌, ℕ, List, length, sym, ap, ◌∙◌, subst}
 use Rattle.machine.specs.declared.Machine.{Machine}
-use Rattle.machine.specs.Rule.{World, Result, lent, rule}
+use Rattle.machine.specs.Rule.{World, Result, lent, Commit}
 use Rattle.machine.specs.Inside.{WellFormedWorld}
 use Rattle.machine.specs.OneCore.{call_of}
 use Rattle.machine.proofs.CaseOf.{case-of}
 use Rattle.machine.proofs.Binds.{follows}
 use Rattle.machine.proofs.Sound.Keeps.{keeps-good}
-use Rattle.one_core.specs.declared.calls.Act.{Act}
+use Rattle.bench_calls.specs.declared.Ask.{Ask}
+use Rattle.bench_calls.specs.Lists.{inside_gives}
 
 pub same-lengths : (m : Machine) (cs ps cs' ps' : List ℕ) → WellFormedWorld (lent m cs ps) → length cs' ≡ length cs → length ps' ≡ length ps
     → WellFormedWorld (lent m cs' ps')
@@ -18,5 +19,9 @@ same-lengths m cs ps cs' ps' g c p =
       formed = g.formed;
     }
 
-pub one-good : (w : World) → WellFormedWorld w → (a : Act) (c : ℕ) (r : Result) → r ≡ rule w (call_of a c) → WellFormedWorld r.world
-one-good w g a c r e = keeps-good (case-of (follows w (call_of a c) r.answer r.world e)) g
+-- a call in place leaves a good world
+pub step-good : (w : World) → WellFormedWorld w → (c : ℕ) (ask : Ask) (r : Result) → r ≡ inside_gives w c ask → WellFormedWorld r.world
+step-good w g c Ask.Setup r e = subst WellFormedWorld (sym (ap (λ (x : Result). x.world) e)) g
+step-good w g c (Ask.One a) r e = keeps-good (case-of (follows w (call_of a c) r.answer r.world e)) g
+step-good w g c Ask.Commit r e = keeps-good (case-of (follows w (Commit c) r.answer r.world e)) g
+step-good w g c Ask.Nothing r e = subst WellFormedWorld (sym (ap (λ (x : Result). x.world) e)) g

@@ -1,3 +1,2 @@
 mod Kept
 mod Runs
-mod Steps

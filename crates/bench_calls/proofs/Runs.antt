@@ -7,7 +7,6 @@ use Rattle.machine.specs.declared.Outcome.{Outcome}
 use Rattle.one_core.specs.declared.Answer.{Answer}
 use Rattle.one_core.specs.declared.Answer.TheVariants.{Ready, Running, Queued, Begun, Value, Written, Waits, Committed, SetBack, Ended, Finished, Refused}
 use Rattle.bench_calls.specs.Lists.{number_of, door, inside, Progress, after_call, ready, after_number, run, door_run, inside_run}
-use Rattle.bench_calls.proofs.Steps.{Left}
 
 -- where the loop is
 abbrev pub state : Answer → Machine → List ℕ → List ℕ → Machine → Progress
@@ -61,14 +60,9 @@ module _ (step : World → ℕ → ℕ → Result) (t : Progress) (list : List �
         → run step (record { last = s.last; world = with_machine s.world s.kept; kept = s.kept }) (drop (i + 1) list) ≡ t
     restores e = moved _ (next-restores step s x e)
 
-    pub calls : (x % 16 ≡ 0 → ⊥) → (x % 16 ≡ 1 → ⊥) → (r : Outcome) (cs ps : List ℕ) → Left (step s.world (x % 16) (x / 16)) r cs ps
+    pub calls : (x % 16 ≡ 0 → ⊥) → (x % 16 ≡ 1 → ⊥) → (r : Outcome) (cs ps : List ℕ) → left r cs ps ≡ step s.world (x % 16) (x / 16)
         → run step (state r.answer r.machine cs ps s.kept) (drop (i + 1) list) ≡ t
-    calls n0 n1 r cs ps l =
-        let done : Result = step s.world (x % 16) (x / 16) in
-        moved _
-        (ap (λ (n : ℕ). record { last = n; world = lent r.machine cs ps; kept = s.kept }) l.0
-        ∙ ap (λ (w : World). record { last = number_of done.answer; world = w; kept = s.kept }) l.1
-        ∙ next-calls step s x n0 n1)
+    calls n0 n1 r cs ps e = moved _ (ap (λ (y : Result). after_call y s.kept) e ∙ next-calls step s x n0 n1)
 
 -- ---- after setup
 

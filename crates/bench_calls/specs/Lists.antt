@@ -7,7 +7,8 @@ use Rattle.one_core.specs.declared.calls.Act.TheVariants as Act
 use Rattle.bench_calls.specs.declared.Ask.{Ask}
 use Rattle.machine.specs.Answers.{kind}
 use Rattle.machine.specs.Sound.{sound}
-use Rattle.machine.specs.Rule.{World, Result, with_machine, setup, rule, Release, Begin, Read, Write, Commit, GiveUp, Finish}
+use Rattle.machine.specs.Rule.{World, Result, with_machine, setup, rule, Commit}
+use Rattle.machine.specs.OneCore.{call_of}
 
 -- the number of an answer
 abbrev pub number_of : Answer → ℕ
@@ -26,40 +27,43 @@ number_of (Refused n) = 10
 
 -- ---- one call
 
--- a call after setup by its rule; another number gives `other`
-unfoldable pub called_by : Result → World → ℕ → ℕ → Result
-called_by other w call c =
-    cond (call == 3) (rule w (Release c 7 100))
-    (cond (call == 4) (rule w (Begin c))
-    (cond (call == 5) (rule w (Read c (c / 2 + 32)))
-    (cond (call == 6) (rule w (Write c c 5))
-    (cond (call == 7) (rule w (Commit c))
-    (cond (call == 8) (rule w (GiveUp c))
-    (cond (call == 9) (rule w (Finish c)) other))))))
-
--- what such a number asks for, for core c
+-- what a number asks for, for core c
 unfoldable pub asked_of : ℕ → ℕ → Ask
 asked_of call c =
-    cond (call == 3) (Ask.One (Act.Release 7 100))
+    cond (call == 2) Ask.Setup
+    (cond (call == 3) (Ask.One (Act.Release 7 100))
     (cond (call == 4) (Ask.One Act.Begin)
     (cond (call == 5) (Ask.One (Act.Read (c / 2 + 32)))
     (cond (call == 6) (Ask.One (Act.Write c 5))
     (cond (call == 7) Ask.Commit
     (cond (call == 8) (Ask.One Act.GiveUp)
-    (cond (call == 9) (Ask.One Act.Finish) Ask.Nothing))))))
+    (cond (call == 9) (Ask.One Act.Finish) Ask.Nothing)))))))
+
+-- what is asked for, on core c, by its rule; setup gives `new`, and no call gives `other`
+abbrev pub gives : Result → Result → World → ℕ → Ask → Result
+gives new other w c Ask.Setup = new
+gives new other w c (Ask.One a) = rule w (call_of a c)
+gives new other w c Ask.Commit = rule w (Commit c)
+gives new other w c Ask.Nothing = other
 
 -- the soundness test alone
 abbrev pub tested : World → Result
 tested w = record { answer = cond (sound w.machine) Ready (Refused 2); world = w }
 
--- a public call: setup too; any other number, the soundness test alone
-unfoldable pub door : World → ℕ → ℕ → Result
-door w call c =
-    cond (call == 2) (setup w.machine.cores w.machine.objects w.committed w.pending) (called_by (tested w) w call c)
+-- by the public calls; where nothing is asked for, the soundness test alone
+abbrev pub door_gives : World → ℕ → Ask → Result
+door_gives w = gives (setup w.machine.cores w.machine.objects w.committed w.pending) (tested w) w
 
--- a call in place; any other number changes nothing
+-- in place; setup and no call change nothing
+abbrev pub inside_gives : World → ℕ → Ask → Result
+inside_gives w = gives (record { answer = Ready; world = w }) (record { answer = Ready; world = w }) w
+
+-- a number's call
+abbrev pub door : World → ℕ → ℕ → Result
+door w call c = door_gives w c (asked_of call c)
+
 abbrev pub inside : World → ℕ → ℕ → Result
-inside w call c = called_by (record { answer = Ready; world = w }) w call c
+inside w call c = inside_gives w c (asked_of call c)
 
 -- ---- a list
 

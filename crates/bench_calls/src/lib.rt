@@ -5,18 +5,16 @@
 
 ghost use Rattle.std.specs.Prelude.{◌≡◌, if◌then◌else◌};
 ghost use Rattle.one_core.specs.declared.Answer.TheVariants.{Ready, Refused};
-ghost use Rattle.machine.specs.Rule.{lent, setup as setup_rule};
-ghost use Rattle.machine.specs.Inside.{WellFormedWorld};
+ghost use Rattle.machine.specs.Rule.{lent, left, setup as setup_rule};
+ghost use Rattle.machine.specs.Inside.{SoundWorld, WellFormedWorld};
 ghost use Rattle.machine.specs.Sound.{sound};
-ghost use Rattle.bench_calls.specs.Lists.{number_of, asked_of, door, inside, ready, run, door_run, inside_run};
+ghost use Rattle.bench_calls.specs.Lists.{number_of, asked_of, door_gives, inside_gives, inside, ready, run, door_run, inside_run};
 
-use machine::inside::calls::{find, find_core};
-use machine::inside::commit::{ahead_of, write_back};
+use machine::inside::calls::access;
+use machine::inside::commit::commit;
 use machine::{Machine, Outcome};
-use one_core::calls::{Act, Seen, object_of};
-use one_core::inside::calls::{act_on, settle};
-use one_core::inside::transaction::{abort, is_struck};
-use one_core::{Answer, CORES};
+use one_core::calls::Act;
+use one_core::{Answer, Refusal};
 
 // The calls of a list, beside SAVE, which keeps the record, and RESTORE, which goes back to the one kept.
 const SAVE: u32 = 0;
@@ -63,69 +61,29 @@ fn number_of(answer: Answer) -> u32
 fn tested(m: Machine) -> Outcome
     ensures { result ≡ record { answer = (if sound m then Ready else Refused 2); machine = m } }
 {
-    if m.sound() {
-        Outcome {
-            answer: Answer::Ready,
-            machine: m,
-        }
+    let answer = if m.sound() {
+        Answer::Ready
     } else {
-        Outcome {
-            answer: Answer::Refused(2),
-            machine: m,
-        }
-    }
+        Answer::from(Refusal::Unsound)
+    };
+    Outcome { machine: m, answer }
 }
 
-// One public call; any other number, the soundness test alone.
-fn door_step(
-    m: Machine,
-    call: u32,
-    core: u32,
-    committed: &mut [u32],
-    pending: &mut [u32],
-) -> Outcome
-    ensures answer { number_of result.answer ≡ number_of (door (lent m committed.old pending.old) call core).answer }
-    ensures world { lent result.machine committed.new pending.new ≡ (door (lent m committed.old pending.old) call core).world }
-{
-    if call == SETUP {
-        return Machine::setup(m.cores as u32, m.objects as u32, committed, pending);
-    }
-    if call == RELEASE {
-        return m.release(core, 7, 100);
-    }
-    if call == BEGIN {
-        return m.begin(core);
-    }
-    if call == READ {
-        return m.read(core, core / 2 + 32, committed, pending);
-    }
-    if call == WRITE {
-        return m.write(core, core, 5, committed, pending);
-    }
-    if call == COMMIT {
-        return m.commit(core, committed, pending);
-    }
-    if call == GIVE_UP {
-        return m.give_up(core);
-    }
-    if call == FINISH {
-        return m.finish(core);
-    }
-    tested(m)
-}
-
-// What a number of a list asks for, beside SAVE and RESTORE: a call that concerns one core, a commit, or no call.
+// What a number of a list asks for, beside SAVE and RESTORE.
 #[derive(Clone, Copy)]
 enum Ask {
+    Setup,
     One(Act),
     Commit,
     Nothing,
 }
 
+#[tactic(auto, unfolding(crate::specs::Lists::asked_of))]
 fn asked(call: u32, core: u32) -> Ask
     ensures { result ≡ asked_of call core }
 {
     match call {
+        SETUP => Ask::Setup,
         RELEASE => Ask::One(Act::Release(7, 100)),
         BEGIN => Ask::One(Act::Begin),
         READ => Ask::One(Act::Read(core / 2 + 32)),
@@ -134,6 +92,43 @@ fn asked(call: u32, core: u32) -> Ask
         GIVE_UP => Ask::One(Act::GiveUp),
         FINISH => Ask::One(Act::Finish),
         _ => Ask::Nothing,
+    }
+}
+
+// The public call that is asked for; where there is none, the soundness test alone.
+#[tactic(auto, unfolding(machine::specs::Rule::rule))]
+fn door_step(m: Machine, ask: Ask, core: u32, committed: &mut [u32], pending: &mut [u32]) -> Outcome
+    ensures { left result committed.new pending.new ≡ door_gives (lent m committed.old pending.old) core ask }
+{
+    match ask {
+        Ask::Setup => Machine::setup(m.cores as u32, m.objects as u32, committed, pending),
+        Ask::One(Act::Release(job, deadline)) => m.release(core, job, deadline),
+        Ask::One(Act::Begin) => m.begin(core),
+        Ask::One(Act::Read(object)) => m.read(core, object, committed, pending),
+        Ask::One(Act::Write(object, value)) => m.write(core, object, value, committed, pending),
+        Ask::One(Act::GiveUp) => m.give_up(core),
+        Ask::One(Act::Finish) => m.finish(core),
+        Ask::Commit => m.commit(core, committed, pending),
+        Ask::Nothing => tested(m),
+    }
+}
+
+// The call that is asked for, in place; setup and no call change nothing.
+#[tactic(auto, unfolding(machine::specs::Rule::rule))]
+fn inside_step(
+    m: &mut Machine,
+    ask: Ask,
+    core: u32,
+    committed: &mut [u32],
+    pending: &mut [u32],
+) -> Answer
+    requires { SoundWorld (lent m.old committed.old pending.old) }
+    ensures { left (record { answer = result; machine = m.new }) committed.new pending.new ≡ inside_gives (lent m.old committed.old pending.old) core ask }
+{
+    match ask {
+        Ask::One(act) => Answer::of(access(m, core, act, committed, pending)),
+        Ask::Commit => Answer::of(commit(m, core, committed, pending)),
+        Ask::Setup | Ask::Nothing => Answer::Ready,
     }
 }
 
@@ -151,30 +146,26 @@ pub extern "C" fn bench_calls_door(
     ensures committed { committed.new ≡ (door_run (setup_rule cores cards committed.old pending.old) list.now).world.committed }
     ensures pending { pending.new ≡ (door_run (setup_rule cores cards committed.old pending.old) list.now).world.pending }
 {
-    let o = Machine::setup(cores, cards, committed, pending);
-    let mut m = o.machine;
+    let made = Machine::setup(cores, cards, committed, pending);
+    let mut m = made.machine;
     let mut kept = m;
-    let mut last = o.answer;
-    let mut i = 0;
-    while i < list.len() {
-        let call = list[i] % 16;
-        let core = list[i] / 16;
-        i += 1;
-        if call == SAVE {
-            kept = m;
-        } else if call == RESTORE {
-            m = kept;
-        } else {
-            let step = door_step(m, call, core, committed, pending);
-            m = step.machine;
-            last = step.answer;
+    let mut last = made.answer;
+    for number in list {
+        let core = *number / 16;
+        match *number % 16 {
+            SAVE => kept = m,
+            RESTORE => m = kept,
+            call => {
+                let step = door_step(m, asked(call, core), core, committed, pending);
+                m = step.machine;
+                last = step.answer;
+            }
         }
     }
     number_of(last)
 }
 
-// Runs the list on a good world, each call in place: it takes its core out of the record, makes the call on it and puts it back. A
-// number for the last answer.
+// Runs the list on a good world, each call in place; a number for the last answer.
 fn inside_run(first: Machine, list: &[u32], committed: &mut [u32], pending: &mut [u32]) -> u32
     requires { WellFormedWorld (lent first committed.old pending.old) }
     ensures number { result ≡ (run inside (ready (lent first committed.old pending.old)) list.now).last }
@@ -184,68 +175,12 @@ fn inside_run(first: Machine, list: &[u32], committed: &mut [u32], pending: &mut
     let mut m = first;
     let mut kept = first;
     let mut last = Answer::Ready;
-    let mut i = 0;
-    while i < list.len() {
-        let call = list[i] % 16;
-        let core = list[i] / 16;
-        i += 1;
-        if call == SAVE {
-            kept = m;
-        } else if call == RESTORE {
-            m = kept;
-        } else {
-            let ask = asked(call, core);
-            match ask {
-                Ask::One(a) => {
-                    let to = find(core, object_of(a), m.cores, m.objects);
-                    let c = to.core;
-                    let d = to.object;
-                    let at = c * m.objects as usize + d;
-                    let k = m.core[c];
-                    let seen = Seen {
-                        tickets: m.tickets,
-                        give_ups: m.give_ups,
-                        committed: committed[d],
-                        pending: pending[at],
-                        version: m.versions[d],
-                    };
-                    let done = act_on(to.refusal, a, k, seen);
-                    let after = done.core;
-                    m.core[c] = after;
-                    m.tickets = done.tickets;
-                    m.give_ups = done.give_ups;
-                    pending[at] = done.pending;
-                    last = done.answer;
-                }
-                Ask::Commit => {
-                    let to = find_core(core, m.cores);
-                    let c = to.core;
-                    let k = m.core[c];
-                    let done = settle(to.refusal, k, ahead_of(m, k));
-                    let after = done.core;
-                    m.core[c] = after;
-                    m.commits = m.commits + done.commits;
-                    write_back(
-                        done.writes,
-                        c * m.objects as usize,
-                        committed,
-                        pending,
-                        &mut m.versions,
-                    );
-                    let mut e: usize = 0;
-                    while e < CORES {
-                        let other = m.core[e];
-                        if is_struck(done.writes, other) {
-                            m.core[e] = abort(other);
-                        }
-                        e += 1;
-                    }
-                    last = done.answer;
-                }
-                Ask::Nothing => {
-                    last = Answer::Ready;
-                }
-            }
+    for number in list {
+        let core = *number / 16;
+        match *number % 16 {
+            SAVE => kept = m,
+            RESTORE => m = kept,
+            call => last = inside_step(&mut m, asked(call, core), core, committed, pending),
         }
     }
     number_of(last)
@@ -265,10 +200,10 @@ pub extern "C" fn bench_calls_inside(
     ensures committed { committed.new ≡ (inside_run (setup_rule cores cards committed.old pending.old) list.now).world.committed }
     ensures pending { pending.new ≡ (inside_run (setup_rule cores cards committed.old pending.old) list.now).world.pending }
 {
-    let o = Machine::setup(cores, cards, committed, pending);
-    let answer = o.answer;
+    let made = Machine::setup(cores, cards, committed, pending);
+    let answer = made.answer;
     if let Answer::Ready = answer {
-        inside_run(o.machine, list, committed, pending)
+        inside_run(made.machine, list, committed, pending)
     } else {
         number_of(answer)
     }

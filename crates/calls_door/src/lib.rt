@@ -44,7 +44,7 @@ const GIVE_UP: u32 = 6;
 
 // The word at that place; 0 where there is none.
 fn word(words: &[u32], at: usize) -> u32 {
-    if at < words.len() { words[at] } else { 0 }
+    words.get(at).copied().unwrap_or(0)
 }
 
 fn byte(words: &[u32], at: usize) -> u8 {
@@ -60,22 +60,6 @@ fn job_in(words: &[u32], at: usize) -> Job
     }
 }
 
-fn jobs_in(words: &[u32], at: usize) -> [Job; JOBS]
-    requires { at < 450 }
-{
-    let none = Job {
-        number: 0,
-        deadline: 0,
-    };
-    let mut jobs = [none; JOBS];
-    let mut j: usize = 0;
-    while j < JOBS {
-        jobs[j] = job_in(words, at + 2 * j);
-        j += 1;
-    }
-    jobs
-}
-
 fn set_in(words: &[u32], at: usize) -> u64
     requires { at < 500 }
 {
@@ -85,9 +69,13 @@ fn set_in(words: &[u32], at: usize) -> u64
 fn core_in(words: &[u32], at: usize) -> Core
     requires { at < 450 }
 {
+    let mut jobs = [Job::default(); JOBS];
+    for (p, job) in jobs.iter_mut().enumerate() {
+        *job = job_in(words, at + 2 * p);
+    }
     let rest = at + JOB_WORDS;
     Core {
-        jobs: jobs_in(words, at),
+        jobs,
         count: byte(words, rest),
         active: word(words, rest + 1) != 0,
         owner: byte(words, rest + 2),
@@ -99,56 +87,34 @@ fn core_in(words: &[u32], at: usize) -> Core
     }
 }
 
-fn cores_in(words: &[u32]) -> [Core; CORES] {
-    let idle = Core::blank();
-    let mut cores = [idle; CORES];
-    let mut c: usize = 0;
-    while c < CORES {
-        cores[c] = core_in(words, FIRST_CORE + CORE_WORDS * c);
-        c += 1;
-    }
-    cores
-}
-
-fn versions_in(words: &[u32]) -> [u32; OBJECTS] {
-    let mut versions: [u32; OBJECTS] = [0; OBJECTS];
-    let mut d: usize = 0;
-    while d < OBJECTS {
-        versions[d] = word(words, VERSIONS + d);
-        d += 1;
-    }
-    versions
-}
-
 fn machine_in(words: &[u32]) -> Machine {
-    Machine {
+    let mut m = Machine {
         cores: byte(words, 0),
         objects: byte(words, 1),
         tickets: word(words, 2),
         commits: word(words, 3),
         give_ups: word(words, 4),
-        core: cores_in(words),
-        versions: versions_in(words),
+        ..Machine::blank()
+    };
+    for (c, core) in m.core.iter_mut().enumerate() {
+        *core = core_in(words, FIRST_CORE + CORE_WORDS * c);
     }
+    for (d, version) in m.versions.iter_mut().enumerate() {
+        *version = word(words, VERSIONS + d);
+    }
+    m
 }
 
 // ---- a record into words
-
-// The word at that place becomes this one, where there is such a place.
-fn put_word(words: &mut [u32], at: usize, w: u32) {
-    if at < words.len() {
-        words[at] = w;
-    }
-}
 
 // The words from that place on become these, where there are such places.
 fn put(words: &mut [u32], at: usize, from: &[u32])
     requires { at < 500 }
 {
-    let mut i: usize = 0;
-    while i < from.len() {
-        put_word(words, at + i, from[i]);
-        i += 1;
+    for (i, w) in from.iter().enumerate() {
+        if at + i < words.len() {
+            words[at + i] = *w;
+        }
     }
 }
 
@@ -157,60 +123,31 @@ fn lower(set: u64) -> u32 {
 }
 
 fn upper(set: u64) -> u32 {
-    (set / 4294967296 % 4294967296) as u32
+    (set / 4294967296) as u32
 }
 
-fn flag(b: bool) -> u32 {
-    if b { 1 } else { 0 }
-}
-
-fn put_jobs(words: &mut [u32], at: usize, jobs: [Job; JOBS])
+fn put_core(words: &mut [u32], at: usize, k: &Core)
     requires { at < 450 }
 {
-    let mut p: usize = 0;
-    while p < JOBS {
-        let j = jobs[p];
-        let pair = [j.number as u32, j.deadline];
-        put(words, at + 2 * p, &pair);
-        p += 1;
+    for (p, job) in k.jobs.iter().enumerate() {
+        put(words, at + 2 * p, &[job.number as u32, job.deadline]);
     }
-}
-
-// A core's words after its jobs.
-fn rest_of(k: Core) -> [u32; 10] {
-    [
+    let rest = [
         k.count as u32,
-        flag(k.active),
+        k.active as u32,
         k.owner as u32,
         k.aborts as u32,
         k.ticket,
-        flag(k.zombie),
+        k.zombie as u32,
         lower(k.reads),
         upper(k.reads),
         lower(k.writes),
         upper(k.writes),
-    ]
-}
-
-fn put_core(words: &mut [u32], at: usize, k: Core)
-    requires { at < 450 }
-{
-    let jobs = k.jobs;
-    put_jobs(words, at, jobs);
-    let rest = rest_of(k);
+    ];
     put(words, at + JOB_WORDS, &rest);
 }
 
-fn put_cores(words: &mut [u32], m: Machine) {
-    let mut c: usize = 0;
-    while c < CORES {
-        let k = m.core[c];
-        put_core(words, FIRST_CORE + CORE_WORDS * c, k);
-        c += 1;
-    }
-}
-
-fn put_machine(words: &mut [u32], m: Machine) {
+fn put_machine(words: &mut [u32], m: &Machine) {
     let counts = [
         m.cores as u32,
         m.objects as u32,
@@ -218,84 +155,30 @@ fn put_machine(words: &mut [u32], m: Machine) {
         m.commits,
         m.give_ups,
     ];
-    let versions = m.versions;
     put(words, 0, &counts);
-    put_cores(words, m);
-    put(words, VERSIONS, &versions);
+    for (c, k) in m.core.iter().enumerate() {
+        put_core(words, FIRST_CORE + CORE_WORDS * c, k);
+    }
+    put(words, VERSIONS, &m.versions);
 }
 
 // ---- the call
 
 // The answer as a number for its kind and two values.
-#[derive(Clone, Copy)]
-struct Told {
-    kind: u32,
-    first: u32,
-    second: u32,
-}
-
-fn told_as(answer: Answer) -> Told {
+fn told_as(answer: Answer) -> (u32, [u32; 2]) {
     match answer {
-        Answer::Ready => Told {
-            kind: 1,
-            first: 0,
-            second: 0,
-        },
-        Answer::Running => Told {
-            kind: 2,
-            first: 0,
-            second: 0,
-        },
-        Answer::Queued => Told {
-            kind: 3,
-            first: 0,
-            second: 0,
-        },
-        Answer::Begun(ticket) => Told {
-            kind: 4,
-            first: ticket,
-            second: 0,
-        },
-        Answer::Value(value, version) => Told {
-            kind: 5,
-            first: value,
-            second: version,
-        },
-        Answer::Written => Told {
-            kind: 6,
-            first: 0,
-            second: 0,
-        },
-        Answer::Waits(core) => Told {
-            kind: 7,
-            first: core as u32,
-            second: 0,
-        },
-        Answer::Committed(aborts) => Told {
-            kind: 8,
-            first: aborts as u32,
-            second: 0,
-        },
-        Answer::SetBack => Told {
-            kind: 9,
-            first: 0,
-            second: 0,
-        },
-        Answer::Ended => Told {
-            kind: 10,
-            first: 0,
-            second: 0,
-        },
-        Answer::Finished(job) => Told {
-            kind: 11,
-            first: job as u32,
-            second: 0,
-        },
-        Answer::Refused(number) => Told {
-            kind: 12,
-            first: number as u32,
-            second: 0,
-        },
+        Answer::Ready => (1, [0, 0]),
+        Answer::Running => (2, [0, 0]),
+        Answer::Queued => (3, [0, 0]),
+        Answer::Begun(ticket) => (4, [ticket, 0]),
+        Answer::Value(value, version) => (5, [value, version]),
+        Answer::Written => (6, [0, 0]),
+        Answer::Waits(core) => (7, [core as u32, 0]),
+        Answer::Committed(aborts) => (8, [aborts as u32, 0]),
+        Answer::SetBack => (9, [0, 0]),
+        Answer::Ended => (10, [0, 0]),
+        Answer::Finished(job) => (11, [job as u32, 0]),
+        Answer::Refused(number) => (12, [number as u32, 0]),
     }
 }
 
@@ -309,28 +192,16 @@ fn called(
     committed: &mut [u32],
     pending: &mut [u32],
 ) -> Outcome {
-    if call == SETUP {
-        return Machine::setup(core, object, committed, pending);
+    match call {
+        SETUP => Machine::setup(core, object, committed, pending),
+        RELEASE => m.release(core, (object % 65536) as u16, value),
+        BEGIN => m.begin(core),
+        READ => m.read(core, object, committed, pending),
+        WRITE => m.write(core, object, value, committed, pending),
+        COMMIT => m.commit(core, committed, pending),
+        GIVE_UP => m.give_up(core),
+        _ => m.finish(core),
     }
-    if call == RELEASE {
-        return m.release(core, (object % 65536) as u16, value);
-    }
-    if call == BEGIN {
-        return m.begin(core);
-    }
-    if call == READ {
-        return m.read(core, object, committed, pending);
-    }
-    if call == WRITE {
-        return m.write(core, object, value, committed, pending);
-    }
-    if call == COMMIT {
-        return m.commit(core, committed, pending);
-    }
-    if call == GIVE_UP {
-        return m.give_up(core);
-    }
-    m.finish(core)
 }
 
 // Makes one call on the record in the words, which hold the record after it then, and the answer's values; the answer's kind comes
@@ -354,12 +225,9 @@ pub extern "C" fn calls_door(
         return 0;
     }
     let m = machine_in(words);
-    let o = called(m, call, core, object, value, committed, pending);
-    let after = o.machine;
-    let answer = o.answer;
-    put_machine(words, after);
-    let t = told_as(answer);
-    let values = [t.first, t.second];
+    let after = called(m, call, core, object, value, committed, pending);
+    put_machine(words, &after.machine);
+    let (kind, values) = told_as(after.answer);
     put(words, VALUES, &values);
-    t.kind
+    kind
 }

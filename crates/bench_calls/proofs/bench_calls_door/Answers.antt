@@ -1,37 +1,32 @@
--- `bench_calls::bench_calls_door` meets its contract. The loop's invariant: both tables keep their length, and what is left of
--- the list gives what the list gives. The measure is what is left of the list.
-use Rattle.std.proofs.Common.{refl, ap, ◌∙◌, arith}
-use Rattle.bench_calls.specs.Lists.{Progress}
-use Rattle.bench_calls.proofs.Runs.{saves, restores, calls, list-ends, door-starts}
+-- `bench_calls::bench_calls_door` meets its contract: what is left of the list gives what the list gives.
+use Rattle.std.proofs.Common.{◌≡◌, ap, ◌∙◌, arith}
+use Rattle.bench_calls.specs.Lists.{Progress, door_gives, door_run}
+use Rattle.machine.specs.Rule.{lent, setup}
+use Rattle.bench_calls.proofs.Runs.{state, saves, restores, calls, list-ends, door-starts}
 use Rattle.bench_calls.proofs.bench_calls_door.Goals as goal
+use Rattle.bench_calls.proofs.bench_calls_door.Goals.{in-0, in-1, in_default, After-number_of}
 
-pub loop-i-init : goal.loop-i-init
-loop-i-init c = (omega arith, refl, refl, refl)
+pub loop-number-preserved : goal.loop-number-preserved
+loop-number-preserved c =
+    let test = c.loop-number-test.true in
+    let inv = c.loop-number.invariant in
+    elim c.match-number-rem16.branch [
+      | in-0 w ↦ rw (w.committed-is, w.pending-is, w.m-is, w.kept-is, w.last-is) (saves _ _ _ _ _ inv test w.in-0.is)
+      | in-1 w ↦ rw (w.committed-is, w.pending-is, w.m-is, w.kept-is, w.last-is) (restores _ _ _ _ _ inv test w.in-1.is)
+      | in_default w ↦
+          let e = w.door_step-step.ensures ∙ ap (door_gives (lent c.loop-number.m c.loop-number.committed c.loop-number.pending) _) w.asked.ensures in
+          rw (w.committed-is, w.pending-is, w.m-is, w.kept-is, w.last-is) (calls _ _ _ _ _ inv test (λ n. omega (arith, n)) (λ n. omega (arith, n)) w.door_step-step.result _ _ e)
+    ]
 
-pub loop-i-preserved-then-call-eq-SAVE : goal.loop-i-preserved-then-call-eq-SAVE
-loop-i-preserved-then-call-eq-SAVE c =
-    let test = c.loop-i-test.true in
-    let inv = c.loop-i.invariant in
-    (omega (arith, test), inv.1, inv.2, saves _ _ _ _ _ inv.3 test c.if-call-eq-SAVE.true)
+-- the list is at its end
+ended : (c : After-number_of) → state c.loop-number.last c.loop-number.m c.loop-number.committed c.loop-number.pending c.loop-number.kept ≡ door_run (setup c.args.cores c.args.cards c.args.committed.now c.args.pending.now) c.args.list.now
+ended c = list-ends _ _ _ _ _ c.loop-number.invariant c.loop-number-test.false ∙ door-starts _ _ _ _ _ c.setup-made.ensures.rule
 
-pub loop-i-preserved-then-call-eq-RESTORE : goal.loop-i-preserved-then-call-eq-RESTORE
-loop-i-preserved-then-call-eq-RESTORE c =
-    let test = c.loop-i-test.true in
-    let inv = c.loop-i.invariant in
-    (omega (arith, test), inv.1, inv.2, restores _ _ _ _ _ inv.3 test c.if-call-eq-RESTORE.true)
+pub returns-clause-number : goal.returns-clause-number
+returns-clause-number c = c.number_of.ensures ∙ ap (λ (s : Progress). s.last) (ended c)
 
-pub loop-i-preserved : goal.loop-i-preserved
-loop-i-preserved c =
-    let test = c.loop-i-test.true in
-    let inv = c.loop-i.invariant in (
-      omega (arith, test),
-      c.door_step-step.auto.committed ∙ inv.1,
-      c.door_step-step.auto.pending ∙ inv.2,
-      calls _ _ _ _ _ inv.3 test c.if-call-eq-SAVE.false c.if-call-eq-RESTORE.false c.door_step-step.result _ _ (c.door_step-step.ensures.answer, c.door_step-step.ensures.world),
-    )
+pub returns-clause-committed : goal.returns-clause-committed
+returns-clause-committed c = ap (λ (s : Progress). s.world.committed) (ended c)
 
-pub returns : goal.returns
-returns c =
-    let inv = c.loop-i.invariant in
-    let same = list-ends _ _ _ _ _ inv.3 c.loop-i-test.false ∙ door-starts _ _ _ _ _ c.setup-o.ensures.rule in
-    record { number = c.number_of.ensures ∙ ap (λ (s : Progress). s.last) same; committed = ap (λ (s : Progress). s.world.committed) same; pending = ap (λ (s : Progress). s.world.pending) same }
+pub returns-clause-pending : goal.returns-clause-pending
+returns-clause-pending c = ap (λ (s : Progress). s.world.pending) (ended c)
