@@ -57,13 +57,16 @@ pub extern "C" fn cards_run(script: &[u8], output: &mut [u8]) -> usize
 fn lines_of(script: &[u8]) -> usize
     ensures { (1 ≤ result) × (length (lines script.now) ≤ result) }
 {
+    let [before @ .., _] = script else {
+        return 1;
+    };
+    let blocks = before.chunks_exact(BLOCK);
+    let rest = blocks.remainder();
     let mut n = 1;
-    if let [before @ .., _] = script {
-        for block in before.chunks(BLOCK) {
-            n += newlines(block) as usize;
-        }
+    for block in blocks {
+        n += newlines(block) as usize;
     }
-    n
+    n + newlines(rest) as usize
 }
 
 // How many newlines a block has: one fewer than the pieces between them. Counted in a byte, so that the compiler compares 16 at a time.
