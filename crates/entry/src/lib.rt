@@ -4,7 +4,7 @@
 
 mod sheets;
 
-ghost use Rattle.std.specs.Prelude.{◌≡◌, cond, ◌++◌, ◌+◌, ◌≤◌, ◌<◌, leb, length, drop};
+ghost use Rattle.std.specs.Prelude.{◌≡◌, ◌++◌, ◌+◌, ◌≤◌, ◌<◌, leb, length, drop};
 ghost use Rattle.decimal.specs.Bytes.{byte};
 ghost use Rattle.table.specs.Pieces.{pieces, lines};
 ghost use Rattle.runner.specs.Listing.{listing};
@@ -60,6 +60,7 @@ fn lines_of(script: &[u8]) -> usize
     let [before @ .., _] = script else {
         return 1;
     };
+    // whole blocks, whose length the compiler knows, and what they leave
     let blocks = before.chunks_exact(BLOCK);
     let rest = blocks.remainder();
     let mut n = 1;
