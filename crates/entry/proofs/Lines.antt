@@ -1,13 +1,13 @@
 -- How many lines a script has, and how many bytes are enough for so many.
-use mathlib.Core.Path.{◌≡◌, refl, ap, ◌∙◌}
+use mathlib.Core.Path.{◌≡◌, refl, sym, ap, ◌∙◌}
 use mathlib.Core.Bool.{Bool, true, false, cond}
-use mathlib.Core.List.{List, [], ◌∷◌, ◌++◌, append_assoc}
-use Prim.Native.Nat.{ℕ, suc, ◌+◌, ◌-◌, ◌*◌, ◌≤◌, ◌<◌}
+use mathlib.Core.List.{List, [], ◌∷◌, ◌++◌, append_assoc, append-nil}
+use Prim.Native.Nat.{ℕ, suc, ◌+◌, ◌-◌, ◌*◌, ◌%◌, ◌≤◌, ◌<◌}
 use native.Mathlib.Numerals.{add-one}
 use native.Mathlib.Omega.{arith}
 use lib.Dec.{eqb, leb}
 use lib.ListN.{length, drop, get_or, length-drop, length-append, drop_of_length-le}
-use lib.Seq.{drop-cons}
+use lib.Seq.{drop-cons, drop-append-add}
 use borrow.Author.Tests.{eq-eqb, ne_eqb, leb-true}
 use Rattle.table.specs.Pieces.{onto, pieces, without_last_empty, lines}
 use Rattle.table.proofs.Laws.{some-piece}
@@ -114,6 +114,13 @@ in-front (b ∷ bs) rest some =
 abbrev pub Counted : List ℕ → ℕ → List ℕ → Type 0
 Counted script n left = (1 ≤ n) × (n + length left ≤ length script) × (n + length (lines (left ++ drop (length script - 1) script)) ≡ suc (length (lines script)))
 
+pub counted-starts : (script left : List ℕ) → left ++ drop (length script - 1) script ≡ script → 1 ≤ length script → Counted script 1 left
+counted-starts script left split some = (
+  omega arith,
+  omega (arith, some, ap length split, length-append left (drop (length script - 1) script), length-drop (length script - 1) script),
+  omega (arith, ap (λ (bs : List ℕ). length (lines bs)) split),
+)
+
 pub block-counted : (script : List ℕ) (n r : ℕ) (left block left' : List ℕ) → Counted script n left → left ≡ block ++ left'
     → (length (pieces 10 block) ≡ r + 1) × (r ≤ length block) → Counted script (n + r) left'
 block-counted script n r left block left' inv cut found = (
@@ -136,6 +143,21 @@ block-counted script n r left block left' inv cut found = (
 
     split : left ++ last ≡ block ++ (left' ++ last)
     split = ap (λ (bs : List ℕ). bs ++ last) cut ∙ append_assoc block left' last
+
+-- what whole blocks of the bytes leave
+abbrev pub Remains : List ℕ → List ℕ → Type 0
+Remains left end = drop (length left - length left % 224) left ≡ end
+
+pub remains-after : (left block left' end : List ℕ) → Remains left end → left ≡ block ++ left' → length block ≡ 224 → Remains left' end
+remains-after left block left' end inv cut long =
+    sym (drop-append-add block left' (length left' - length left' % 224))
+    ∙ ap (λ (k : ℕ). drop k (block ++ left')) (omega (arith, long, ap length cut, length-append block left'))
+    ∙ ap (drop (length left - length left % 224)) (sym cut)
+    ∙ inv
+
+pub remains-last : (left end : List ℕ) → Remains left end → length left < 224 → left ≡ end ++ []
+remains-last left end inv few =
+    ap (λ (k : ℕ). drop k left) (let none : 0 ≡ length left - length left % 224 = omega (arith, few) in none) ∙ inv ∙ sym (append-nil end)
 
 -- before the last byte all are counted
 pub all-counted : (script : List ℕ) (n : ℕ) (left : List ℕ) → Counted script n left → length left ≡ 0 → length (lines script) ≤ n

@@ -4,7 +4,7 @@
 
 mod sheets;
 
-ghost use Rattle.std.specs.Prelude.{◌≡◌, cond, ◌++◌, ◌+◌, ◌≤◌, ◌<◌, leb, length, drop};
+ghost use Rattle.std.specs.Prelude.{◌≡◌, ◌++◌, ◌+◌, ◌≤◌, ◌<◌, leb, length, drop};
 ghost use Rattle.decimal.specs.Bytes.{byte};
 ghost use Rattle.table.specs.Pieces.{pieces, lines};
 ghost use Rattle.runner.specs.Listing.{listing};
@@ -57,13 +57,17 @@ pub extern "C" fn cards_run(script: &[u8], output: &mut [u8]) -> usize
 fn lines_of(script: &[u8]) -> usize
     ensures { (1 ≤ result) × (length (lines script.now) ≤ result) }
 {
+    let [before @ .., _] = script else {
+        return 1;
+    };
+    // whole blocks, whose length the compiler knows, and what they leave
+    let blocks = before.chunks_exact(BLOCK);
+    let rest = blocks.remainder();
     let mut n = 1;
-    if let [before @ .., _] = script {
-        for block in before.chunks(BLOCK) {
-            n += newlines(block) as usize;
-        }
+    for block in blocks {
+        n += newlines(block) as usize;
     }
-    n
+    n + newlines(rest) as usize
 }
 
 // How many newlines a block has: one fewer than the pieces between them. Counted in a byte, so that the compiler compares 16 at a time.
