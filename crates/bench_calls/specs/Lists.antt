@@ -40,11 +40,11 @@ asked_of call c =
     (cond (call == 9) (Ask.One Act.Finish) Ask.Nothing)))))))
 
 -- what is asked for, on core c, by its rule; setup gives `new`, and no call gives `other`
-abbrev pub gives : Result → Result → World → ℕ → Ask → Result
-gives new other w c Ask.Setup = new
-gives new other w c (Ask.One a) = rule w (call_of a c)
-gives new other w c Ask.Commit = rule w (Commit c)
-gives new other w c Ask.Nothing = other
+abbrev pub by_ask : Result → Result → World → ℕ → Ask → Result
+by_ask new other w c Ask.Setup = new
+by_ask new other w c (Ask.One a) = rule w (call_of a c)
+by_ask new other w c Ask.Commit = rule w (Commit c)
+by_ask new other w c Ask.Nothing = other
 
 -- the soundness test alone
 abbrev pub tested : World → Result
@@ -52,11 +52,11 @@ tested w = record { answer = cond (sound w.machine) Ready (Refused 2); world = w
 
 -- by the public calls; where nothing is asked for, the soundness test alone
 abbrev pub door_gives : World → ℕ → Ask → Result
-door_gives w = gives (setup w.machine.cores w.machine.objects w.committed w.pending) (tested w) w
+door_gives w = by_ask (setup w.machine.cores w.machine.objects w.committed w.pending) (tested w) w
 
 -- in place; setup and no call change nothing
 abbrev pub inside_gives : World → ℕ → Ask → Result
-inside_gives w = gives (record { answer = Ready; world = w }) (record { answer = Ready; world = w }) w
+inside_gives w = by_ask (record { answer = Ready; world = w }) (record { answer = Ready; world = w }) w
 
 -- a number's call
 abbrev pub door : World → ℕ → ℕ → Result

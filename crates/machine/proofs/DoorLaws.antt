@@ -6,7 +6,7 @@ use Rattle.one_core.specs.declared.refusal.Refusal.{Refusal}
 use Rattle.one_core.specs.declared.refusal.Refusal.TheVariants.{Unsound, WrongTable}
 use Rattle.one_core.specs.Refusal.{number}
 use Rattle.one_core.specs.Calls.{unless_on}
-use Rattle.machine.specs.OneCore.{tested}
+use Rattle.machine.specs.OneCore.{checked}
 use Rattle.machine.specs.Record.{blank, machine_of, sizes_in_range}
 use Rattle.machine.specs.Sound.{sound}
 use Rattle.machine.specs.Inside.{SoundWorld}
@@ -46,7 +46,7 @@ misfit-refused w call lends s t =
 
 -- ---- both, as they are tested
 
-pub tested-fine : (w : World) → Ok (tt {0}) ≡ tested w → SoundWorld w
+pub tested-fine : (w : World) → Ok (tt {0}) ≡ checked w → SoundWorld w
 unfolding unless_on
 tested-fine w = go (sound w.machine) refl (both_fit w) refl
   where
@@ -56,7 +56,7 @@ tested-fine w = go (sound w.machine) refl (both_fit w) refl
     go true s false t e = cc
     go false s t u e = cc
 
-pub tested-refused : (w : World) (call : Call) (r : Refusal) → at call false false true true true false false ≡ true → Err r ≡ tested w
+pub tested-refused : (w : World) (call : Call) (r : Refusal) → at call false false true true true false false ≡ true → Err r ≡ checked w
     → record { answer = Refused (number r); world = w } ≡ rule w call
 unfolding unless_on
 tested-refused w call r lends = go (sound w.machine) refl (both_fit w) refl

@@ -79,8 +79,8 @@ lends _ = false
 -- ---- what the public calls do besides
 
 -- an unsound record and wrong tables are refused
-abbrev pub tested : World → Result (Unit {0}) Refusal
-tested w = unless_on ((unsound w.machine, Unsound) ∷ (wrong_tables w, WrongTable) ∷ []) tt
+abbrev pub checked : World → Result (Unit {0}) Refusal
+checked w = unless_on ((unsound w.machine, Unsound) ∷ (wrong_tables w, WrongTable) ∷ []) tt
 
 -- ---- commit
 

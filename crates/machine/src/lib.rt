@@ -7,7 +7,7 @@ ghost use Rattle.std.specs.Prelude.{◌≡◌, ◌*◌, ◌&&◌, true, [], ◌=
 ghost use Rattle.machine.specs.Sound.{sound, is_blank};
 ghost use Rattle.machine.specs.Rule as Rule;
 ghost use Rattle.machine.specs.Rule.{lent, left, rule};
-ghost use Rattle.machine.specs.OneCore.{call_of, lends, zeroed, handed, tested};
+ghost use Rattle.machine.specs.OneCore.{call_of, lends, zeroed, handed, checked};
 ghost use Rattle.machine.specs.Record.{blank, sizes_in_range};
 ghost use Rattle.one_core.specs.declared.Answer.TheVariants.{Ready};
 ghost use Rattle.one_core.specs.Refusal.{answer_of};
@@ -225,7 +225,7 @@ impl Machine {
     // Whether the record is sound and the tables are of its lengths: refusals 2 and 3.
     #[tactic(auto, unfolding(one_core::specs::Calls::unless_on))]
     fn tested(&self, committed: &[u32], pending: &[u32]) -> Result<(), Refusal>
-        ensures { result ≡ tested (lent self.now committed.now pending.now) }
+        ensures { result ≡ checked (lent self.now committed.now pending.now) }
     {
         if !is_sound(self) {
             return Err(Refusal::Unsound);

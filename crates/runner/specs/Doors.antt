@@ -21,10 +21,10 @@ readable r =
     && (is_blank r.machine || (nat_lt 1 r.number && sound r.machine))
 
 -- the number of what the doors refuse: 2 and 3 are document 01's, and no document gives 100
-abbrev pub number : Misfit → ℕ
-number Unsound = 2
-number WrongTable = 3
-number NoRoom = 100
+abbrev pub misfit_number : Misfit → ℕ
+misfit_number Unsound = 2
+misfit_number WrongTable = 3
+misfit_number NoRoom = 100
 
 -- the first that applies: the reading is unsound, either table has not the length of the largest machine's, the output has not 32 bytes for
 -- each byte that is read

@@ -97,12 +97,8 @@ fn line_ended(r: &mut Reading, committed: &mut [u32], pending: &mut [u32]) -> Op
             Some(made.answer)
         }
         Asked::Commit(core) => {
-            let given = commit(
-                &mut r.machine,
-                core,
-                &mut committed[..cards],
-                &pending[..words],
-            );
+            let committed = &mut committed[..cards];
+            let given = commit(&mut r.machine, core, committed, &pending[..words]);
             Some(Answer::of(given))
         }
         Asked::One(core, act) => {

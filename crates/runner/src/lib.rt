@@ -8,7 +8,7 @@
 ghost use Rattle.std.specs.Prelude.{◌≡◌, ℕ, ◌≤◌, List, [], ◌++◌, length, take, drop, if◌then◌else◌, is_ok, OnOk, OnErr, IfOk};
 ghost use Rattle.runner.specs.Kept.{ReadingFits, rest, state, started, fed, at_end};
 ghost use Rattle.std.specs.Result.{result_err};
-ghost use Rattle.runner.specs.Doors.{number, refusal};
+ghost use Rattle.runner.specs.Doors.{misfit_number, refusal};
 
 use crate::soundness::refusal_of;
 use machine::Machine;
@@ -44,7 +44,7 @@ pub enum Misfit {
 impl Misfit {
     // Its number: 2 and 3 are document 01's; no document has 100. (12, a listing longer than the output, is the C entry's.)
     pub fn number(self) -> u8
-        ensures { result ≡ number self }
+        ensures { result ≡ misfit_number self }
     {
         match self {
             Misfit::Unsound => 2,

@@ -1,6 +1,6 @@
-// The fields of a line: where each begins, and its bytes.
-ghost use Rattle.std.specs.Prelude.{◌≡◌, [], get_or};
-ghost use Rattle.table.specs.Cut.{cut_of, fields_by, Fielded};
+// The fields of a line: where each begins.
+ghost use Rattle.std.specs.Prelude.{◌≡◌};
+ghost use Rattle.table.specs.Cut.{cut_of};
 
 use crate::reader::{end_from, next_from};
 use crate::{Fields, MOST_FIELDS};
@@ -23,17 +23,4 @@ pub fn cut(line: &[u8], longest: usize, count: usize) -> Option<Fields>
     }
     begins[count] = line.len() + 1;
     Some(Fields { begins, count })
-}
-
-impl Fields {
-    // The bytes of a field of the line, counted from 0; none past the last.
-    pub fn part(self, line: &[u8], n: usize) -> &[u8]
-        requires { Fielded line.now self }
-        ensures { result.now ≡ get_or (fields_by self line.now) n [] }
-    {
-        if self.count <= n {
-            return &[];
-        }
-        &line[self.begins[n]..self.begins[n + 1] - 1]
-    }
 }

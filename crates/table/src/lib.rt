@@ -10,6 +10,7 @@
 mod cutting;
 mod ends;
 mod heading;
+mod inside;
 pub mod reader;
 
 pub use cutting::cut;
