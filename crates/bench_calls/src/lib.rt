@@ -16,7 +16,7 @@ use machine::{Machine, Outcome};
 use one_core::calls::Act;
 use one_core::{Answer, Refusal};
 
-// The calls of a list, beside SAVE, which keeps the record, and RESTORE, which goes back to the one kept.
+// The calls of a list, numbers as C hands them in, beside SAVE, which keeps the record, and RESTORE, which goes back to the one kept.
 const SAVE: u32 = 0;
 
 const RESTORE: u32 = 1;
@@ -37,7 +37,7 @@ const GIVE_UP: u32 = 8;
 
 const FINISH: u32 = 9;
 
-// A number for an answer.
+// A number for an answer: the export gives C one.
 fn number_of(answer: Answer) -> u32
     ensures { result ≡ number_of answer }
 {

@@ -1,7 +1,7 @@
 // One public call of `Machine` on a record that the caller spells in words, for the comparison of the calls with the reference
 // (tests/compare.sh). Every record can be spelt, sound or not. It is a test's door, and no part of the product. It is proved to be safe
 // and to end; what the words hold after a call it does not promise, for that is what is compared.
-// The functions that read and write parts of the words ask that the part is within them.
+// The functions that read and write parts of the words take the words and a place: a slice from there on would need the same bounds, of lengths.
 #![tactic(auto)]
 
 ghost use Rattle.std.specs.Prelude.{◌≡◌, ◌<◌, length, ◌≢◌};
@@ -25,7 +25,7 @@ const VALUES: usize = VERSIONS + OBJECTS;
 
 const WORDS: usize = VALUES + 2;
 
-// The calls by number; any other number is finish.
+// The calls by number, as C hands them in; any other number is finish.
 const SETUP: u32 = 0;
 
 const RELEASE: u32 = 1;

@@ -49,6 +49,7 @@ fn refused(rt: &impl Print, reading: Reading) -> io::Result<()> {
     let mut committed = [7u32; COMMITTED_WORDS];
     let mut pending = [7u32; PENDING_WORDS];
     let mut text = [0u8; ROOM];
+    // arrays of their own: of a part of the whole table the check does not find the length again
     let mut short_committed = [7u32; COMMITTED_WORDS - 1];
     let mut short_pending = [7u32; PENDING_WORDS - 1];
     let mut little = [0u8; LINE_ROOM - 1];

@@ -70,7 +70,8 @@ fn lines_of(script: &[u8]) -> usize
     n + newlines(rest) as usize
 }
 
-// How many newlines a block has: one fewer than the pieces between them. Counted in a byte, so that the compiler compares 16 at a time.
+// How many newlines a block has: one fewer than the pieces between them. Counted in a byte, so that the compiler
+// compares 16 at a time: `filter` and `count` over the whole script cost 8 instructions a line more.
 fn newlines(block: &[u8]) -> u8
     requires { length block.now < 256 }
     ensures { (length (pieces (byte "\n") block.now) ≡ result + 1) × (result ≤ length block.now) }

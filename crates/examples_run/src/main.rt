@@ -5,7 +5,7 @@
 mod rows;
 
 use machine::Machine;
-use one_core::Answer;
+use one_core::{Answer, Refusal};
 use rows::{ROWS, Row};
 use std::io;
 
@@ -60,7 +60,7 @@ fn play(
             return Ok(machine);
         }
         Row::Malformed => {
-            show(rt, Answer::Refused(11))?;
+            show(rt, Answer::from(Refusal::Malformed))?;
             return Ok(machine);
         }
     };

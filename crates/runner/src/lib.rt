@@ -54,7 +54,8 @@ impl Misfit {
     }
 }
 
-// What is kept of a script between two chunks.
+// What is kept of a script between two chunks. The doors take any reading and refuse an unsound one, as `doors_run` tries; so no type rules a
+// field's value out, and the flag, the bytes and their number stand side by side.
 #[derive(Clone, Copy)]
 pub struct Reading {
     // whether lines are still read

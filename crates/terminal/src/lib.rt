@@ -29,6 +29,7 @@ pub fn fill<R: Read>(reader: &mut R, buffer: &mut [u8]) -> io::Result<usize>
     ensures bytes { IfOk result (λ n. Consumes (R.remaining reader.old) (R.remaining reader.new) (take n buffer.new)) }
     ensures all { IfOk result (λ n. n < length buffer.new → IsAtEnd (R.remaining reader.new)) }
 {
+    // the bytes are counted by hand: a read may give fewer than there is room for
     let mut n = 0;
     while n < buffer.len() {
         let more = reader.read(&mut buffer[n..])?;
