@@ -4,6 +4,7 @@ mod Setups
 mod Acts
 mod Sizes
 mod ByCall
+pub mod InPlace
 mod Asking
 mod LineLaws
 mod Stepping
