@@ -25,6 +25,7 @@ use one_core::{Answer, CORES, Core, Refusal};
 pub mod inside;
 mod soundness;
 
+// The fields are document 01's: its standing rules speak of the places past `cores` and `objects` too.
 #[derive(Clone, Copy)]
 pub struct Machine {
     // how many cores and objects (document 01: cards) there are
@@ -210,7 +211,8 @@ impl Machine {
         Outcome::of(self, given)
     }
 
-    // A read or a write: refusals 2 and 3, or what the inside function gives.
+    // A read or a write: refusals 2 and 3, or what the inside function gives. (By a `match`: of a closure that writes to the record and a
+    // table, no proof closed.)
     fn lent(mut self, core: u32, act: Act, committed: &mut [u32], pending: &mut [u32]) -> Outcome
         requires { lends act ≡ true }
         ensures { left result committed.new pending.new ≡ rule (lent self committed.old pending.old) (call_of act core) }
