@@ -46,6 +46,22 @@ module _ (r₀ : Reading) (cs₀ ps₀ out₀ chunk : List ℕ) (r : Reading) (c
       f.kept ∙ ap (fed (state r cs ps)) (drop-cons chunk i 0 h ∙ ap (λ (n : ℕ). b ∷ drop n chunk) (one_more i))
       ∙ ap (λ (x : KeptState). fed x (drop (i + 1) chunk)) e
 
+  -- the byte is read, and nothing is written
+  pub feeding-stays : (r' : Reading) → ReadingFits r' cs ps → ((bytes : List ℕ) → rest r cs ps (b ∷ bytes) ≡ rest r' cs ps bytes)
+      → after_byte (state r cs ps) b ≡ state r' cs ps → Feeding r₀ cs₀ ps₀ out₀ chunk r' cs ps out written (i + 1)
+  feeding-stays r' fit' e step =
+      record {
+        fit = fit';
+        within = omega (arith, h);
+        room = omega (arith, f.room);
+        out-long = f.out-long;
+        listed = λ bytes.
+            f.listed bytes ∙ ap (λ (x : List ℕ). take written out ++ rest r cs ps x) (next-byte bytes)
+            ∙ ap (λ (x : List ℕ). take written out ++ x) (e (drop (i + 1) chunk ++ bytes));
+        after = f.after;
+        kept = kept_on (state r' cs ps) step;
+      }
+
   -- the byte is read: k bytes are written, and `part` is what it leaves of the output from `written` on
   reads : (r' : Reading) (cs' ps' : List ℕ) (k : ℕ) (part : List ℕ) → ReadingFits r' cs' ps'
       → ((bytes : List ℕ) → rest r cs ps (b ∷ bytes) ≡ take k part ++ rest r' cs' ps' bytes) → k ≤ 32

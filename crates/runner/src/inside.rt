@@ -29,39 +29,43 @@ pub fn feed(
     ensures kept { state result.reading committed.new pending.new ≡ fed (state r committed.old pending.old) chunk.now }
 {
     let mut written = 0;
+    // beside the reading, so that it stays in a register: as a field of `r` it makes a line 37 instructions dearer
+    let mut length = r.length;
     for b in chunk {
-        written += byte_read(&mut r, *b, committed, pending, &mut output[written..]);
+        if *b != b'\n' {
+            if length < KEPT_BYTES {
+                r.line[length] = *b;
+                length += 1;
+            }
+        } else if r.going {
+            r.length = length;
+            written += line_listed(&mut r, committed, pending, &mut output[written..]);
+            length = 0;
+        }
     }
+    r.length = length;
     Fed {
         reading: r,
         written,
     }
 }
 
-// The next byte, and how many bytes of the output it writes: a newline ends the line, and any other byte joins it while bytes of it are kept.
-fn byte_read(
+// The line has ended: what it asks for is done, and its answer is listed. How many bytes of the output are written.
+fn line_listed(
     r: &mut Reading,
-    b: u8,
     committed: &mut [u32],
     pending: &mut [u32],
     output: &mut [u8],
 ) -> usize
-    requires { ReadingFits r.old committed.old pending.old × (line_room ≤ length output.old) }
+    requires fits { ReadingFits r.old committed.old pending.old }
+    requires going { r.old.going ≡ true }
+    requires room { line_room ≤ length output.old }
     ensures fit { ReadingFits r.new committed.new pending.new }
-    ensures listed { (bytes : List ℕ) → rest r.old committed.old pending.old (b ∷ bytes) ≡ take result output.new ++ rest r.new committed.new pending.new bytes }
+    ensures empty { r.new.length ≡ 0 }
+    ensures listed { (bytes : List ℕ) → rest r.old committed.old pending.old (byte "\n" ∷ bytes) ≡ take result output.new ++ rest r.new committed.new pending.new bytes }
     ensures after { (result ≤ line_room) × (drop result output.new ≡ drop result output.old) }
-    ensures kept { state r.new committed.new pending.new ≡ after_byte (state r.old committed.old pending.old) b }
+    ensures kept { state r.new committed.new pending.new ≡ after_byte (state r.old committed.old pending.old) (byte "\n") }
 {
-    if b != b'\n' {
-        if r.length < KEPT_BYTES {
-            r.line[r.length] = b;
-            r.length += 1;
-        }
-        return 0;
-    }
-    if !r.going {
-        return 0;
-    }
     let n = r.number;
     match line_ended(r, committed, pending) {
         Some(answer) => put_line(n, answer, output),
@@ -73,6 +77,7 @@ fn byte_read(
 fn line_ended(r: &mut Reading, committed: &mut [u32], pending: &mut [u32]) -> Option<Answer>
     requires { ReadingFits r.old committed.old pending.old × (r.old.going ≡ true) }
     ensures fit { ReadingFits r.new committed.new pending.new }
+    ensures empty { r.new.length ≡ 0 }
     ensures listed { (bytes : List ℕ) → rest r.old committed.old pending.old (byte "\n" ∷ bytes) ≡ answer_line r.old.number result ++ rest r.new committed.new pending.new bytes }
     ensures kept { state r.new committed.new pending.new ≡ after_byte (state r.old committed.old pending.old) (byte "\n") }
 {

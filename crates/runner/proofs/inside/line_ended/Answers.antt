@@ -30,37 +30,37 @@ access-given-requires c = (good (goal.at.access-given-requires c).After-end_line
 pub returns-in-Order : goal.returns-in-Order
 returns-in-Order c =
     let e = order-ended _ _ _ c.requires.0 c.requires.1 _ c.end_line-asked.ensures _ c.in-Order.is in
-    record { fit = e.fit; listed = e.listed; kept = e.kept }
+    record { fit = e.fit; empty = refl; listed = e.listed; kept = e.kept }
 
 pub returns-in-Refused : goal.returns-in-Refused
 returns-in-Refused c =
     let e = line-ended _ _ _ c.requires.0 c.requires.1 _ c.end_line-asked.ensures _ c.in-Refused.is refl _ c.requires.1 _ _ _ _
     (refused_done _ _ _ c.requires.0.holds _ _ c.from.ensures) in
-    record { fit = e.fit; listed = e.listed; kept = e.kept }
+    record { fit = e.fit; empty = refl; listed = e.listed; kept = e.kept }
 
 pub returns-in-Ended : goal.returns-in-Ended
 returns-in-Ended c =
     let e = line-ended _ _ _ c.requires.0 c.requires.1 _ c.end_line-asked.ensures _ c.in-Ended.is refl _ refl _ _ _ _
     (refused_done _ _ _ c.requires.0.holds _ _ c.from-in-Ended.ensures) in
-    record { fit = e.fit; listed = e.listed; kept = e.kept }
+    record { fit = e.fit; empty = refl; listed = e.listed; kept = e.kept }
 
 pub returns-in-Setup : goal.returns-in-Setup
 returns-in-Setup c =
     let made = c.set_up-made.ensures in
     let e = line-ended _ _ _ c.requires.0 c.requires.1 _ c.end_line-asked.ensures _ c.in-Setup.is refl _ c.requires.1 _ _ _ _
     (setup-done _ _ _ _ _ _ _ _ (made.answer, (made.world, (made.kept, made.tables)))) in
-    record { fit = e.fit; listed = e.listed; kept = e.kept }
+    record { fit = e.fit; empty = refl; listed = e.listed; kept = e.kept }
 
 pub returns-in-Commit : goal.returns-in-Commit
 returns-in-Commit c =
     let g = good (goal.at.returns-in-Commit c).After-end_line-asked _ c.in-Commit.is refl in
     let e = line-ended _ _ _ c.requires.0 c.requires.1 _ c.end_line-asked.ensures _ c.in-Commit.is refl _ c.requires.1 _ _ _ _
     (commit-done _ _ _ g c.requires.0.holds _ _ _ _ c.of.ensures _ c.commit-given.auto.committed (by-rule _ _ c.commit-given.ensures)) in
-    record { fit = e.fit; listed = e.listed; kept = e.kept }
+    record { fit = e.fit; empty = refl; listed = e.listed; kept = e.kept }
 
 pub returns-in-One : goal.returns-in-One
 returns-in-One c =
     let g = good (goal.at.returns-in-One c).After-end_line-asked _ c.in-One.is refl in
     let e = line-ended _ _ _ c.requires.0 c.requires.1 _ c.end_line-asked.ensures _ c.in-One.is refl _ c.requires.1 _ _ _ _
     (access-done _ _ _ g c.requires.0.holds _ _ _ _ c.of-in-One.ensures _ c.access-given.auto.pending c.access-given.ensures) in
-    record { fit = e.fit; listed = e.listed; kept = e.kept }
+    record { fit = e.fit; empty = refl; listed = e.listed; kept = e.kept }
