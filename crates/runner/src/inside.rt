@@ -29,7 +29,7 @@ pub fn feed(
     ensures kept { state result.reading committed.new pending.new ≡ fed (state r committed.old pending.old) chunk.now }
 {
     let mut written = 0;
-    // beside the reading, so that it stays in a register: as a field of `r` it makes a line 37 instructions dearer
+    // beside the reading, so that it stays in a register: as a field of `r` it makes a line of `cards` 42 instructions dearer
     let mut length = r.length;
     for b in chunk {
         if *b != b'\n' {
