@@ -13,6 +13,7 @@ mod Finishing
 mod ByteLaws
 mod Endings
 mod Feeding
+pub mod LinesDone
 mod Typed
 pub mod Doors
 pub mod Laws
