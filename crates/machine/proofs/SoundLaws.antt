@@ -1,9 +1,9 @@
 -- The laws behind the soundness test: the rules that one core keeps, and the rules gathered core by core.
-use Rattle.std.proofs.Common.{◌≡◌, ℕ, zero, suc, ◌+◌, ◌<◌, ◌≤◌, Bool, true, false, cond, not, ◌&&◌, eqb, ltb, List, length, get_or, take, count_by, sym, refl, ap, ◌∙◌, ap₂, add-one, arith, le-leb, length-take-le}
+use Rattle.std.proofs.Common.{◌≡◌, ℕ, ◌+◌, ◌<◌, ◌≤◌, Bool, true, false, not, ◌&&◌, eqb, ltb, List, length, get_or, take, sym, refl, ap, ◌∙◌, ap₂, add-one, arith, le-leb, length-take-le}
 use Rattle.std.specs.List.{list_all}
-use Rattle.std.proofs.lemmas.List.{get_or-take, take_all}
+use Rattle.std.proofs.lemmas.List.{get_or-take}
 use Rattle.std.proofs.lemmas.List.Elements.{All-get_or, All-from_get_or}
-use Rattle.std.proofs.lemmas.List.Sums.{AllPass-from_list_all, list_all-from_AllPass, count_by_more_yes, count_by_more_no}
+use Rattle.std.proofs.lemmas.List.Sums.{AllPass-from_list_all, list_all-from_AllPass}
 use Rattle.std.proofs.Math.Bool.{and_comm}
 use borrow.Author.Tests.{lt-leb}
 use Rattle.objset.specs.Objset.{each}
@@ -15,7 +15,7 @@ use Rattle.machine.specs.Record.{core_at, active_at, tally}
 use Rattle.one_core.specs.Tidy.{◌⇒◌, tidy, blank_on}
 use Rattle.machine.specs.Sound.{in_range, sets_within, owner_listed, idle_clear, zombie_empty, few_jobs, unused_jobs, owner_first}
 use Rattle.machine.specs.Sound.{lacked_at, lacked_cores, version_at, versions_bounded, lacked_object_at, lacked_objects}
-use Rattle.machine.specs.Sound.{differ_at, tickets_differ, given_at, tickets_given, smaller_tickets, aborts_at, aborts_bounded}
+use Rattle.machine.specs.Sound.{smaller_at, differ_at, tickets_differ, given_at, tickets_given, smaller_tickets, aborts_at, aborts_bounded}
 use Rattle.machine.specs.Sound.{tickets_counted, sound, cards_sound, cores_tidy, turns_kept, cores_sound, turn_kept}
 use Rattle.one_core.proofs.Tidy.{blank-tidy}
 use Rattle.one_core.proofs.TestLaws.{and-true, same_test, both, each-fails, each_all, each_both, gather}
@@ -98,7 +98,7 @@ kept-all m n c p q e a =
     ap₂ (λ (b : Bool) (x : ℕ). b && eqb m.tickets (m.commits + m.give_ups + x))
     (each_all 16 c (kept_at m) p q a ∙ cores-kept m) (e ∙ ap (λ (x : ℕ). tally x (active_at m)) s)
 
--- the cores before c by a test, and all of them by a count
+-- a test of the cores before c
 pub before-each : (f : Core → Bool) (cores : List Core) (c : ℕ) → c ≤ length cores → list_all f (take c cores) ≡ each c (λ e. f (get_or cores e no_core))
 before-each f cores c l = same_test _ _ to from
   where
@@ -118,25 +118,9 @@ before-each f cores c l = same_test _ _ to from
         (All-from_get_or (λ k. f k ≡ true) (take c cores) no_core
         (λ e b. let here : e < c = omega (arith, long) in ap f (get_or-take c cores e no_core here) ∙ each-one c _ h e here))
 
-counted : (f : Core → Bool) (cores : List Core) (n : ℕ) → n ≤ length cores → count_by f (take n cores) ≡ tally n (λ e. f (get_or cores e no_core))
-unfolding tally
-counted f cores zero l = refl
-counted f cores (suc n) l = go (f (get_or cores n no_core)) refl (counted f cores n (omega arith))
-  where
-    one_more : count_by f (take (suc n) cores) ≡ count_by f (take (n + 1) cores)
-    one_more = ap (λ (i : ℕ). count_by f (take i cores)) (sym (add-one n))
-
-    go : (b : Bool) → f (get_or cores n no_core) ≡ b → count_by f (take n cores) ≡ tally n (λ e. f (get_or cores e no_core))
-        → count_by f (take (suc n) cores) ≡ cond b 1 0 + tally n (λ e. f (get_or cores e no_core))
-    go true t h = one_more ∙ omega (arith, count_by_more_yes f cores n no_core (omega arith) t, h)
-    go false t h = one_more ∙ omega (arith, count_by_more_no f cores n no_core (omega arith) t, h)
-
-pub smaller-counted : (m : Machine) (t : ℕ) → length m.core ≡ 16
-    → count_by (λ (k : Core). k.active && ltb k.ticket t) m.core ≡ smaller_tickets m t
+pub ahead-all : (m : Machine) (t n b c : ℕ) → 16 ≤ c → c ≤ 16 → n ≡ b + tally c (smaller_at m t) → n ≡ b + smaller_tickets m t
 unfolding smaller_tickets
-smaller-counted m t long =
-    let f : (Core → Bool) = λ k. k.active && ltb k.ticket t in
-    ap (count_by f) (sym (take_all 16 m.core (omega (arith, long)))) ∙ counted f m.core 16 (omega (arith, long))
+ahead-all m t n b c p q e = let s : c ≡ 16 = omega arith in e ∙ ap (λ (x : ℕ). b + tally x (smaller_at m t)) s
 
 -- ---- the record
 

@@ -68,7 +68,7 @@ fn tables_fit(cores: u8, objects: u8, committed: usize, pending: usize) -> bool
 
 impl Outcome {
     // What a call gave on the record, and the record after it.
-    fn of(machine: Machine, given: Result<Answer, Refusal>) -> Outcome
+    fn of(given: Result<Answer, Refusal>, machine: Machine) -> Outcome
         ensures { result ≡ record { answer = answer_of given; machine = machine } }
     {
         Outcome {
@@ -118,42 +118,48 @@ impl Machine {
     {
         let mut machine = Machine::blank();
         let given = set_up(&mut machine, cores, objects, committed, pending);
-        Outcome::of(machine, given)
+        Outcome::of(given, machine)
     }
 
     // The job joins the end of the core's list; running, if it is the running job now, or queued. 2 unsound record, 4 no such core,
     // 6 the core has 8 jobs. Refused, the record comes back as given.
-    pub fn release(self, core: u32, job: u16, deadline: u32) -> Outcome
+    pub fn release(mut self, core: u32, job: u16, deadline: u32) -> Outcome
         ensures rule { result ≡ Rule.release self core job deadline }
         ensures paper { Numbered (lent self [] []) (Rule.Release core job deadline) result.answer }
     {
-        self.unlent(core, Act::Release(job, deadline))
+        Outcome::of(self.unlent(core, Act::Release(job, deadline)), self)
     }
 
     // The running job's transaction gets the next ticket: 2 unsound record, 4 no such core, 7 the core has no job, 8 a transaction
     // is in progress, 10 every ticket is given. Refused, the record comes back as given.
-    pub fn begin(self, core: u32) -> Outcome
+    pub fn begin(mut self, core: u32) -> Outcome
         ensures rule { result ≡ Rule.begin self core }
         ensures paper { Numbered (lent self [] []) (Rule.Begin core) result.answer }
     {
-        self.unlent(core, Act::Begin)
+        Outcome::of(self.unlent(core, Act::Begin), self)
     }
 
     // The card's pending value if this attempt wrote it, else its committed value, and the committed version; the card joins the
     // read set. A marked transaction is told that it was set back instead. 2 unsound record, 3 wrong table, 4 no such core, 5 no
     // such card, 9 none in progress. Both tables keep every word; refused, the record comes back as given.
-    pub fn read(self, core: u32, object: u32, committed: &mut [u32], pending: &mut [u32]) -> Outcome
+    pub fn read(
+        mut self,
+        core: u32,
+        object: u32,
+        committed: &mut [u32],
+        pending: &mut [u32],
+    ) -> Outcome
         ensures rule { left result committed.new pending.new ≡ Rule.read (lent self committed.old pending.old) core object }
         ensures paper { Numbered (lent self committed.old pending.old) (Rule.Read core object) result.answer }
     {
-        self.lent(core, Act::Read(object), committed, pending)
+        Outcome::of(self.lent(core, Act::Read(object), committed, pending), self)
     }
 
     // Stores the pending word; the card joins the write set. A marked transaction is told that it was set back instead. 2 unsound
     // record, 3 wrong table, 4 no such core, 5 no such card, 9 none in progress. No other word changes; refused, none does and the
     // record comes back as given.
     pub fn write(
-        self,
+        mut self,
         core: u32,
         object: u32,
         value: u32,
@@ -163,7 +169,10 @@ impl Machine {
         ensures rule { left result committed.new pending.new ≡ Rule.write (lent self committed.old pending.old) core object value }
         ensures paper { Numbered (lent self committed.old pending.old) (Rule.Write core object value) result.answer }
     {
-        self.lent(core, Act::Write(object, value), committed, pending)
+        Outcome::of(
+            self.lent(core, Act::Write(object, value), committed, pending),
+            self,
+        )
     }
 
     // The transaction commits, with the count of setbacks, or waits, with the core of the smallest conflicting ticket, or is told that
@@ -174,54 +183,63 @@ impl Machine {
         ensures rule { left result committed.new pending.new ≡ Rule.commit (lent self committed.old pending.old) core }
         ensures paper { Numbered (lent self committed.old pending.old) (Rule.Commit core) result.answer }
     {
-        let given = match self.tested(committed, pending) {
-            Ok(()) => commit(&mut self, core, committed, pending),
-            Err(refusal) => Err(refusal),
-        };
-        Outcome::of(self, given)
+        Outcome::of(self.committed(core, committed, pending), self)
     }
 
     // The transaction ends without effect: 2 unsound record, 4 no such core, 9 none in progress. Refused, the record comes back as
     // given.
-    pub fn give_up(self, core: u32) -> Outcome
+    pub fn give_up(mut self, core: u32) -> Outcome
         ensures rule { result ≡ Rule.give_up self core }
         ensures paper { Numbered (lent self [] []) (Rule.GiveUp core) result.answer }
     {
-        self.unlent(core, Act::GiveUp)
+        Outcome::of(self.unlent(core, Act::GiveUp), self)
     }
 
     // The running job leaves the list, the others keep their order; its number is the answer. 2 unsound record, 4 no such core, 7
     // the core has no job, 8 a transaction is in progress. Refused, the record comes back as given.
-    pub fn finish(self, core: u32) -> Outcome
+    pub fn finish(mut self, core: u32) -> Outcome
         ensures rule { result ≡ Rule.finish self core }
         ensures paper { Numbered (lent self [] []) (Rule.Finish core) result.answer }
     {
-        self.unlent(core, Act::Finish)
+        Outcome::of(self.unlent(core, Act::Finish), self)
     }
 
     // A call that is lent no table: refusal 2, or what the inside function gives.
-    fn unlent(mut self, core: u32, act: Act) -> Outcome
-        ensures { result ≡ handed (rule (zeroed self) (call_of act core)) }
+    fn unlent(&mut self, core: u32, act: Act) -> Result<Answer, Refusal>
+        ensures { record { answer = answer_of result; machine = self.new } ≡ handed (rule (zeroed self.old) (call_of act core)) }
     {
-        let given = if is_sound(&self) {
-            alone(&mut self, core, act)
-        } else {
-            Err(Refusal::Unsound)
-        };
-        Outcome::of(self, given)
+        if !is_sound(self) {
+            return Err(Refusal::Unsound);
+        }
+        alone(self, core, act)
     }
 
-    // A read or a write: refusals 2 and 3, or what the inside function gives. (By a `match`: of a closure that writes to the record and a
-    // table, no proof closed.)
-    fn lent(mut self, core: u32, act: Act, committed: &mut [u32], pending: &mut [u32]) -> Outcome
+    // A read or a write: refusals 2 and 3, or what the inside function gives.
+    fn lent(
+        &mut self,
+        core: u32,
+        act: Act,
+        committed: &[u32],
+        pending: &mut [u32],
+    ) -> Result<Answer, Refusal>
         requires { lends act ≡ true }
-        ensures { left result committed.new pending.new ≡ rule (lent self committed.old pending.old) (call_of act core) }
+        ensures { left (record { answer = answer_of result; machine = self.new }) committed.now pending.new ≡ rule (lent self.old committed.now pending.old) (call_of act core) }
     {
-        let given = match self.tested(committed, pending) {
-            Ok(()) => access(&mut self, core, act, committed, pending),
-            Err(refusal) => Err(refusal),
-        };
-        Outcome::of(self, given)
+        self.tested(committed, pending)?;
+        access(self, core, act, committed, pending)
+    }
+
+    // The same of a commit.
+    fn committed(
+        &mut self,
+        core: u32,
+        committed: &mut [u32],
+        pending: &[u32],
+    ) -> Result<Answer, Refusal>
+        ensures { left (record { answer = answer_of result; machine = self.new }) committed.new pending.now ≡ Rule.commit (lent self.old committed.old pending.now) core }
+    {
+        self.tested(committed, pending)?;
+        commit(self, core, committed, pending)
     }
 
     // Whether the record is sound and the tables are of its lengths: refusals 2 and 3.

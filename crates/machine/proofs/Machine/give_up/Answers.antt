@@ -9,4 +9,4 @@ pub returns : goal.returns
 unfolding rule
 returns c =
     let t = told (smallest-given (lent c.args.self [] []) (GiveUp c.args.core)) c.unlent.ensures in
-    record { rule = t.0; paper = t.1 }
+    rw c.of.ensures (record { rule = t.0; paper = t.1 })

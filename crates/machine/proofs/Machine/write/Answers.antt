@@ -8,4 +8,4 @@ pub returns : goal.returns
 unfolding rule
 returns c =
     let t = lent-told (smallest-given (lent c.args.self c.args.committed.now c.args.pending.now) (Write c.args.core c.args.object c.args.value)) c.lent.ensures in
-    record { rule = t.0; paper = t.1 }
+    rw c.of.ensures (record { rule = t.0; paper = t.1 })
