@@ -166,7 +166,7 @@ pub extern "C" fn bench_calls_door(
 }
 
 // Runs the list on a good world, each call in place; a number for the last answer. The loop is the door's but for its step: one loop for both
-// would take the step as a closure over the record and both tables, with a condition of its own.
+// would take the step as a closure over the record and both tables, with a condition of its own: no plainer.
 fn inside_run(first: Machine, list: &[u32], committed: &mut [u32], pending: &mut [u32]) -> u32
     requires { WellFormedWorld (lent first committed.old pending.old) }
     ensures number { result ≡ (run inside (ready (lent first committed.old pending.old)) list.now).last }

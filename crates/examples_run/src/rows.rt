@@ -1,8 +1,8 @@
 // The examples of document 01 and of papers 1 and 4 as rows, and what a row is.
 use Row::{Begin, Cards, Commit, Finish, GiveUp, Heading, Malformed, Read, Release, Setup, Write};
 
-// A call with its numbers, or what is written between the calls. The calls are not taken from `script`: each row would be a word longer, and this
-// program would stand on what reads scripts.
+// A call with its numbers, or what is written between the calls. The calls are not taken from `script`: each row would be
+// `Call(Setup(..))`, and this program would stand on what reads scripts.
 #[derive(Clone, Copy)]
 pub enum Row {
     // cores, cards

@@ -39,7 +39,7 @@ fn turn_kept(m: &Machine, c: usize, ticket: u32, aborts: u8) -> bool
 }
 
 // Whether each core is tidy and its transaction keeps those rules, each core that the machine lacks is blank, and the count of tickets
-// given is commits + give-ups + transactions in progress.
+// given is commits + give-ups + transactions in progress. One pass for the tests and the count: an `all` and a count would be two.
 fn cores_kept(m: &Machine) -> bool
     ensures { result ≡ cores_sound m.now }
 {

@@ -34,11 +34,11 @@ pub const LINE_ROOM: usize = 32;
 #[derive(Clone, Copy, PartialEq, Eq)]
 pub enum Misfit {
     // the reading is unsound
-    Unsound,
+    Unsound = 2,
     // either table has not the length of the largest machine's
-    WrongTable,
+    WrongTable = 3,
     // the output has not LINE_ROOM bytes for each byte of the chunk, whether or not its listing would fit
-    NoRoom,
+    NoRoom = 100,
 }
 
 impl Misfit {
@@ -46,11 +46,7 @@ impl Misfit {
     pub fn number(self) -> u8
         ensures { result ≡ misfit_number self }
     {
-        match self {
-            Misfit::Unsound => 2,
-            Misfit::WrongTable => 3,
-            Misfit::NoRoom => 100,
-        }
+        self as u8
     }
 }
 
@@ -77,7 +73,7 @@ pub struct Fed {
     pub written: usize,
 }
 
-// The same of the doors, or why they refused. Refused, nothing is written and the reading is as given.
+// The same of the doors, or why they refused. Refused, nothing is written and the reading comes back as given; so it stands beside the `Result`.
 #[derive(Clone, Copy)]
 pub struct Taken {
     pub reading: Reading,

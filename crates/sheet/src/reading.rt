@@ -29,7 +29,7 @@ fn read_tasks(bytes: &[u8], first: usize, at: [usize; MOST_FIELDS]) -> Option<Ta
     let mut tasks = [Task::default(); TASKS];
     let mut n = 0;
     let mut from = first;
-    // by places: a split at newlines would give one line more after the last
+    // by places: `split` gives one line more after the last newline, and of `split_inclusive` std has no law
     while from < bytes.len() {
         let to = piece_end(bytes, from, b'\n');
         let task = task_line(at, &bytes[from..to])?;

@@ -34,7 +34,8 @@ pub fn ahead_of(cores: &[Core; CORES], k: &Core) -> Option<u8>
 }
 
 // Stores the pending value of each object in the write set ws as its committed value and raises its version by one; the others
-// keep both. The core's own pending values come first in `own`. The write set holds no object past the committed table.
+// keep both. The core's own pending values come first in `own`. The write set holds no object past the committed table. (An iterator over a
+// set would be this loop, with the word as its state.)
 pub fn write_back(ws: u64, own: &[u32], committed: &mut [u32], versions: &mut [u32; OBJECTS])
     requires own_long { length committed.old ≤ length own.now }
     requires versions_len { length versions.old ≡ most_objects }
