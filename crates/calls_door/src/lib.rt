@@ -1,7 +1,7 @@
 // One public call of `Machine` on a record that the caller spells in words, for the comparison of the calls with the reference
 // (tests/compare.sh). Every record can be spelt, sound or not. It is a test's door, and no part of the product. It is proved to be safe
 // and to end; what the words hold after a call it does not promise, for that is what is compared.
-// The functions that read and write parts of the words take the words and a place: a slice from there on would need the same bounds, of lengths.
+// The parts are found by their places: they have many widths, and C gives them in one row.
 #![tactic(auto)]
 
 ghost use Rattle.std.specs.Prelude.{◌≡◌, ◌<◌, length, ◌≢◌};

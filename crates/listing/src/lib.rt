@@ -98,10 +98,9 @@ pub fn put_number(n: u32, output: &mut [u8], at: usize) -> usize
     put_bytes(output, at, digits)
 }
 
-// Copies a text over the output's bytes from `at` on, and answers how many bytes it has. Output and place stay two parameters: the
-// promises say what is placed there (`placed`), and the programs' proofs cite them so. The bytes
-// before and after them keep what they held. Where the text does not fit, the output keeps its bytes,
-// and the answer is 0.
+// Copies a text over the output's bytes from `at` on, and answers how many bytes it has; the bytes before and after them keep what they
+// held. Where the text does not fit, the output keeps its bytes and the answer is 0, which is what a caller adds to its place either way.
+// Output and place stay two parameters: the promises say what is placed there (`placed`), and the programs' proofs cite them so.
 #[tactic(auto, unfolding(crate::specs::Text::fitting_at, crate::specs::Text::placed))]
 pub fn put_bytes(output: &mut [u8], at: usize, text: &[u8]) -> usize
     ensures count { result ≡ length (fitting_at at text.now output.old) }

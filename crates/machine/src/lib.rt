@@ -25,7 +25,8 @@ use one_core::{Answer, CORES, Core, Refusal};
 pub mod inside;
 mod soundness;
 
-// The fields are document 01's: its standing rules speak of the places past `cores` and `objects` too.
+// The fields are document 01's. The arrays have their full length on a smaller machine: the standing rules say what stands past `cores` and
+// `objects`.
 #[derive(Clone, Copy)]
 pub struct Machine {
     // how many cores and objects (document 01: cards) there are
@@ -204,7 +205,7 @@ impl Machine {
         Outcome::of(self.unlent(core, Act::Finish), self)
     }
 
-    // A call that is lent no table: refusal 2, or what the inside function gives.
+    // A call that is lent no table: `Unsound`, or what the inside function gives.
     fn unlent(&mut self, core: u32, act: Act) -> Result<Answer, Refusal>
         ensures { record { answer = answer_of result; machine = self.new } ≡ handed (rule (zeroed self.old) (call_of act core)) }
     {
@@ -214,7 +215,7 @@ impl Machine {
         alone(self, core, act)
     }
 
-    // A read or a write: refusals 2 and 3, or what the inside function gives.
+    // A read or a write: `Unsound`, `WrongTable`, or what the inside function gives.
     fn lent(
         &mut self,
         core: u32,
@@ -242,7 +243,7 @@ impl Machine {
         commit(self, core, committed, pending)
     }
 
-    // Whether the record is sound and the tables are of its lengths: refusals 2 and 3.
+    // Whether the record is sound, `Unsound` if not, and the tables are of its lengths, `WrongTable` if not.
     #[tactic(auto, unfolding(one_core::specs::Calls::unless_on))]
     fn tested(&self, committed: &[u32], pending: &[u32]) -> Result<(), Refusal>
         ensures { result ≡ checked (lent self.now committed.now pending.now) }

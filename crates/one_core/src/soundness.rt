@@ -73,8 +73,8 @@ impl Core {
             && (self.owner == 0 || self.owner_first())
     }
 
-    // Whether every field is 0. Its numbers are joined before they are tested, a job as one of them, its deadline above its number, so that the
-    // compiler takes several at a time: an `all` over the jobs makes the public calls of `examples_run` 5 % dearer.
+    // Whether every field is 0. The numbers are joined before they are tested, so that the compiler takes several at a time; a job counts as
+    // one number, its deadline in the upper half. An `all` over the jobs makes the public calls of `examples_run` 5 % dearer.
     pub fn is_blank(&self) -> bool
         ensures { result ≡ blank_on self.now }
     {

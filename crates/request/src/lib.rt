@@ -13,7 +13,7 @@ use one_core::calls::Act;
 use script::{Call, Columns};
 
 // How many lines are read, the line of names among them.
-const MOST_LINES: u32 = 1_000_000;
+pub const MOST_LINES: u32 = 1_000_000;
 
 // What a line asks for.
 #[derive(Clone, Copy)]
@@ -60,7 +60,7 @@ fn founded(call: Call) -> Asked
     }
 }
 
-// A call where there is no machine: any but setup is refused 2.
+// A call where there is no machine: any but setup is refused, since the blank record is unsound.
 #[tactic(auto, unfolding(crate::specs::Asks::unfounded))]
 fn unfounded(call: Call) -> Asked
     ensures { result ≡ unfounded call }
@@ -71,7 +71,7 @@ fn unfounded(call: Call) -> Asked
     Asked::Setup(cores, cards)
 }
 
-// A line of values: a line that is not a call yields refusal 11, and the next line is read.
+// A line of values: one that is not a call is malformed, and the next line is read.
 #[tactic(auto, unfolding(crate::specs::Asks::of_line))]
 fn values_line(columns: Columns, line: &[u8], cores: u8) -> Asked
     ensures { result ≡ of_line cores (spells columns line.now) }
@@ -85,7 +85,7 @@ fn values_line(columns: Columns, line: &[u8], cores: u8) -> Asked
     founded(call)
 }
 
-// A line that has ended, whichever it is: line 1 has the names, line 1,000,001 is refused 11 and ends the run, any other has values.
+// A line that has ended, whichever it is: line 1 has the names, line 1,000,001 is malformed and ends the run, any other has values.
 #[tactic(auto, unfolding(crate::specs::Asks::asks))]
 pub fn end_line(columns: Columns, number: u32, line: &[u8], cores: u8) -> Asked
     ensures { result ≡ asks columns number line.now cores }

@@ -97,9 +97,8 @@ fn line_ended(r: &mut Reading, committed: &mut [u32], pending: &mut [u32]) -> Op
             Some(Answer::from(refusal))
         }
         Asked::Setup(cores, cards) => {
-            let made = set_up(cores, cards, committed, pending);
-            r.machine = made.machine;
-            Some(made.answer)
+            let given = set_up(&mut r.machine, cores, cards, committed, pending);
+            Some(Answer::of(given))
         }
         Asked::Commit(core) => {
             let committed = &mut committed[..cards];

@@ -11,7 +11,7 @@ use crate::{COMMITTED_WORDS, KEPT_BYTES, LINE_ROOM, Misfit, PENDING_WORDS, Readi
 use machine::Machine;
 
 // The greatest number that a line may have while lines are read.
-const LAST_LINE: u32 = 1_000_001;
+const LAST_LINE: u32 = request::MOST_LINES + 1;
 
 // Whether no byte is a newline.
 fn no_newline(bytes: &[u8]) -> bool

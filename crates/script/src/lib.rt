@@ -1,8 +1,8 @@
 // Which call a line of a script spells (document 01, 'Script and listing'). A script's first line says the order of the fields;
 // each other line is a call or malformed.
 //
-// `order` reads the first line, and `parse` each other line, both over `table`; of a malformed line they make nothing. Their contracts cite `specs/`; `proofs/Laws.antt` has what
-// a caller knows of what stands there. The public functions require nothing.
+// `order` reads the first line, and `parse` each other line, both over `table`; of a malformed line they make nothing. Their contracts
+// cite `specs/`; `proofs/Laws.antt` has what a caller knows of what stands there. The public functions require nothing.
 #![tactic(auto)]
 
 mod calls;

@@ -18,7 +18,7 @@ pub enum Failure {
     Write(io::Error),
 }
 
-// Whether the program was given an argument.
+// Whether the program was given an argument. It promises nothing: std's contract has no word for the arguments.
 pub fn has_argument(rt: &impl Env) -> bool {
     !matches!(rt.arg(1, &mut [0]), Err(FillError::NotPresent))
 }

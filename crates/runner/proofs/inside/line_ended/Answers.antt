@@ -1,5 +1,5 @@
 -- `runner::inside::line_ended` meets its contract: each thing that a line may ask for is carried out by the rule.
-use Rattle.std.proofs.Common.{◌≡◌, ℕ, true, refl}
+use Rattle.std.proofs.Common.{◌≡◌, ℕ, true, refl, ◌∙◌}
 use Rattle.machine.specs.Inside.{WellFormedWorld}
 use Rattle.machine.specs.Rule.{World, Result, rule, commit, Commit}
 use Rattle.request.specs.declared.Asked.{Asked}
@@ -46,16 +46,16 @@ returns-in-Ended c =
 
 pub returns-in-Setup : goal.returns-in-Setup
 returns-in-Setup c =
-    let made = c.set_up-made.ensures in
+    let made = c.set_up-given.ensures in
     let e = line-ended _ _ _ c.requires.0 c.requires.1 _ c.end_line-asked.ensures _ c.in-Setup.is refl _ c.requires.1 _ _ _ _
-    (setup-done _ _ _ _ _ _ _ _ (made.answer, (made.world, (made.kept, made.tables)))) in
+    (setup-done _ _ _ _ _ _ _ _ (c.of.ensures ∙ made.answer, (made.world, (made.kept, made.tables)))) in
     record { fit = e.fit; empty = refl; listed = e.listed; kept = e.kept }
 
 pub returns-in-Commit : goal.returns-in-Commit
 returns-in-Commit c =
     let g = good (goal.at.returns-in-Commit c).After-end_line-asked _ c.in-Commit.is refl in
     let e = line-ended _ _ _ c.requires.0 c.requires.1 _ c.end_line-asked.ensures _ c.in-Commit.is refl _ c.requires.1 _ _ _ _
-    (commit-done _ _ _ g c.requires.0.holds _ _ _ _ c.of.ensures _ c.commit-given.auto.committed (by-rule _ _ c.commit-given.ensures)) in
+    (commit-done _ _ _ g c.requires.0.holds _ _ _ _ c.of-in-Commit.ensures _ c.commit-given.auto.committed (by-rule _ _ c.commit-given.ensures)) in
     record { fit = e.fit; empty = refl; listed = e.listed; kept = e.kept }
 
 pub returns-in-One : goal.returns-in-One
