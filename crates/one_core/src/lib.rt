@@ -30,7 +30,7 @@ pub struct Job {
 // and its standing rules say that they are 0 then.
 #[derive(Clone, Copy, Default)]
 pub struct Core {
-    // the list, in order of release; the places from count on are unused
+    // the list, in order of release; the places from count on are unused (document 01; no heap: an array of fixed length and a count)
     pub jobs: [Job; JOBS],
     pub count: u8,
     // a transaction is in progress
