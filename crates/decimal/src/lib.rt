@@ -3,6 +3,8 @@
 // The contracts cite `specs/`: `spelling n` is how n is written, and `read_as_number field` what a field reads
 // as. `proofs/Laws.antt` has what a caller knows of them. The public functions require nothing; `fill`
 // has a condition.
+//
+// Not `str::parse` and `write!`: document 01 allows no sign and no leading zeros, and prints into a lent scratch, which it keeps where it is short.
 #![tactic(auto)]
 
 ghost use Rattle.std.specs.Prelude.{◌≡◌, ◌-◌, ◌≤◌, ◌++◌, SomeIff, length, drop};

@@ -1,4 +1,5 @@
 // The lines that the program prints. The functions ask for room in the output: 33 bytes for a line, and for 32 of them.
+// They put the parts one by one and not by `write!`: the promise is of every byte of the output.
 ghost use Rattle.std.specs.Prelude.{◌≡◌, ◌++◌, ◌+◌, ◌≤◌, length, drop};
 ghost use Rattle.listing.specs.Text.{placed};
 ghost use Rattle.taskset.specs.Tasks.{most_tasks};

@@ -2,6 +2,8 @@
 // of weight 2 to the power d, is 1. A set holds objects from 0 to 63; any other number is outside every set.
 // Each promise is an equation with a definition of specs/Objset.antt and holds for any numbers; those of the public functions speak of
 // membership alone.
+//
+// Sets are plain words and no type of their own (document 01), since constants, arrays and the C side hold them.
 #![tactic(auto)]
 
 ghost use Rattle.std.specs.Prelude.{◌≡◌};
@@ -17,7 +19,7 @@ fn mask(d: usize) -> u64
     if d < OBJECTS { 1 << d } else { EMPTY }
 }
 
-// The set that holds nothing: for constants and arrays.
+// The set that holds nothing: for constants and arrays. `empty()` is the one that promises it.
 pub const EMPTY: u64 = 0;
 
 // The set that holds nothing.

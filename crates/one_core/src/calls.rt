@@ -8,7 +8,7 @@ use crate::{Answer, Core};
 // A call that concerns one core, without that core.
 #[derive(Clone, Copy)]
 pub enum Act {
-    // job number, deadline
+    // job number, deadline, as they stand in the call (document 01); a `Job` here would be no plainer to write or to match
     Release(u16, u32),
     Begin,
     // object (document 01: card)
@@ -20,7 +20,8 @@ pub enum Act {
 }
 
 impl Act {
-    // The object that it names; 0, which every machine has, where it names none.
+    // The object that it names; 0, which every machine has, where it names none: not an Option, so that one way of finding the core and the
+    // object's words serves all six calls.
     pub fn object(self) -> u32
         ensures { result ≡ object_of self }
     {

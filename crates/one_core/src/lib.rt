@@ -28,9 +28,9 @@ pub struct Job {
 // One core: its list of jobs and its transaction. The small fields stand together, which saves the compiler copies of what lies between.
 // `active` stands beside the transaction's fields, and no Option holds them: document 01's record has them whether one is in progress or not,
 // and its standing rules say that they are 0 then.
-#[derive(Clone, Copy)]
+#[derive(Clone, Copy, Default)]
 pub struct Core {
-    // the list, in order of release; the places from count on are unused
+    // the list, in order of release; the places from count on are unused (document 01; no heap: an array of fixed length and a count)
     pub jobs: [Job; JOBS],
     pub count: u8,
     // a transaction is in progress
@@ -87,16 +87,6 @@ impl Core {
     pub fn blank() -> Core
         ensures { result ≡ blank_core }
     {
-        Core {
-            jobs: [Job::default(); JOBS],
-            count: 0,
-            active: false,
-            owner: 0,
-            ticket: 0,
-            aborts: 0,
-            zombie: false,
-            reads: objset::empty(),
-            writes: objset::empty(),
-        }
+        Core::default()
     }
 }

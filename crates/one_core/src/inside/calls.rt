@@ -1,6 +1,9 @@
 // What a call gives on its core, once the core and the card are found: the six calls that concern one core. Each promise is an equation with
 // a definition of specs/Calls.antt. `act_on` asks for a list of at most 8 jobs and, while a transaction is in progress, for a count of give-ups
 // that can rise (`Fits`); `begin`, `give_up` and `finish` for their part of it.
+//
+// The tests for a transaction in progress and for a mark stand in `read` and in `write` (and in the machine's commit): a few lines each, and a
+// helper would hand back an Option within a Result, to be matched in as many.
 ghost use Rattle.std.specs.Prelude.{◌≡◌, ◌<◌, ◌≤◌, true};
 ghost use Rattle.one_core.specs.Calls.{left_on, release_on, begin_on, read_on, write_on, give_up_on, finish_on, taken, Fits};
 ghost use Rattle.one_core.specs.Parts.{most_jobs};
