@@ -1,5 +1,5 @@
 -- Where names stand among fields: one name, field by field, and several, name by name.
-use mathlib.Core.Path.{◌≡◌, refl, ap}
+use mathlib.Core.Path.{◌≡◌, refl, sym, ap, ◌∙◌}
 use mathlib.Core.Logic.{◌⊎◌, inl, inr}
 use mathlib.Core.Bool.{Bool, true, false, and-eq-true_iff}
 use mathlib.Core.List.{List, [], ◌∷◌, ◌++◌}
@@ -9,6 +9,7 @@ use native.Mathlib.Omega.{arith}
 use lib.ListN.{length, get_or, drop, drop_of_length-le}
 use lib.Seq.{drop-cons}
 use borrow.Author.Tests.{lt-ltb, ltb-true}
+use Rattle.std.specs.Prelude.{Option, Some, None, SomeIff, MatchOption}
 use Rattle.std.specs.Str.{bytes_eq}
 use Rattle.table.specs.Fields.{place, stands, places_of, all_stand, columns}
 
@@ -24,6 +25,26 @@ module _ (name : List ℕ) (fs : List (List ℕ)) (i : ℕ) where
   pub nowhere : length fs ≤ i → i + place name (drop i fs) ≡ i
   unfolding place
   nowhere h = rw (drop_of_length-le fs h) (omega arith)
+
+-- fields that are another name are passed
+module _ (name : List ℕ) (fs : List (List ℕ)) where
+  goes : (i : ℕ) → i ≤ length fs → ((k : ℕ) → 0 ≤ k → k < i → bytes_eq (get_or fs k []) name ≡ false) → place name fs ≡ i + place name (drop i fs)
+  goes zero h other = omega arith
+  goes (suc i) h other =
+      goes i (omega arith) (λ k p l. other k p (omega arith)) ∙ rw (add-one i) at (passed name fs i (omega arith) (other i (omega arith) (omega arith)))
+
+  -- the first field that is the name, if there is one
+  pub first_is : (n : ℕ) → length fs ≡ n → (r : Option ℕ)
+      → MatchOption r ((k : ℕ) → 0 ≤ k → k < n → bytes_eq (get_or fs k []) name ≡ false)
+      (λ i. (0 ≤ i) × (i < n) × (bytes_eq (get_or fs i []) name ≡ true) × ((k : ℕ) → 0 ≤ k → k < i → bytes_eq (get_or fs k []) name ≡ false))
+      → SomeIff r (place name fs < length fs) (place name fs)
+  first_is n e None other =
+      let end = goes n (omega arith) other in
+      let gone = nowhere name fs n (omega arith) in
+      λ h. omega arith
+  first_is n e (Some i) is =
+      let here = goes i (omega (arith, is.1)) is.3 ∙ found name fs i (omega (arith, is.1)) is.2 in
+      (omega (arith, here, is.1), sym here)
 
 -- ---- several names
 

@@ -10,7 +10,7 @@ use crate::reader::next_from;
 use crate::{Fields, MOST_FIELDS};
 
 // Where each of the names stands in a line of names; none, where the line is malformed. `names` has them in their plain order, one space
-// between.
+// between. The array is padded past the last: the names are lent as one text, so how many there are is no part of a type (and no heap).
 pub fn order(names: &[u8], line: &[u8], longest: usize) -> Option<[usize; MOST_FIELDS]>
     ensures { result ≡ held_places (columns_of (pieces (byte " ") names.now) longest line.now) }
 {
@@ -37,11 +37,6 @@ impl Fields {
         requires { Fielded line.now self }
         ensures { let fs = fields_by self line.now in SomeIff result (place name.now fs < length fs) (place name.now fs) }
     {
-        for i in 0..self.count {
-            if self.part(line, i) == name {
-                return Some(i);
-            }
-        }
-        None
+        (0..self.count).find(|&i| self.part(line, i) == name)
     }
 }
