@@ -15,7 +15,7 @@ mod tasks;
 
 pub use contention::groups_of;
 pub use preemption::levels_of;
-pub use tasks::{LAST_CORE, is_task_set};
+pub use tasks::{LAST_CORE, is_task_set, standing};
 
 // The most tasks of a task set.
 pub const TASKS: usize = 32;

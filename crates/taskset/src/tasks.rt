@@ -28,7 +28,7 @@ pub(crate) fn tasks_of(set: &TaskSet) -> Result<&[Task], NotTasks>
 }
 
 // The tasks that stand; none where the count is greater than the array.
-fn standing(set: &TaskSet) -> &[Task]
+pub fn standing(set: &TaskSet) -> &[Task]
     ensures { result.now ≡ standing set.now }
 {
     set.tasks.get(..set.count).unwrap_or(&[])
