@@ -25,11 +25,13 @@ pub fn fill(list: &mut [Task], set: TaskSet) -> Result<usize, NotTasks>
     if n == 0 || list.len() < n {
         return Err(NotTasks);
     }
+    // by `[..n]`, for of what is written through `get_mut` std says the length alone
     list[..n].copy_from_slice(tasks);
     Ok(n)
 }
 
-// The first n tasks of the list as a task set; the empty one, where the list is shorter or no task set has so many.
+// The first n tasks of the list as a task set; the empty one, where the list is shorter or no task set has so many. That is the tasks of no sheet
+// and refused as such below, so it needs no option. A list and n (paper 2: the reader answers a count), for an n above the list is refused, not cut.
 pub fn taken(list: &[Task], n: usize) -> TaskSet
     ensures { result ≡ packed (first_of n list.now) }
 {
