@@ -1,10 +1,10 @@
 -- Each way that the values of four fields make a task, or none.
 use mathlib.Core.Path.{◌≡◌, sym, ap, ◌∙◌}
 use mathlib.Core.List.{List, []}
-use Prim.Native.Nat.{ℕ, ◌≤◌, ◌<◌}
+use Prim.Native.Nat.{ℕ, ◌≤◌}
 use native.Mathlib.Omega.{arith}
 use lib.ListN.{get_or}
-use borrow.Author.Tests.{le-leb, lt-leb}
+use borrow.Author.Tests.{le-leb}
 use Rattle.std.specs.Prelude.{None, Some}
 use Rattle.taskset.specs.Tasks.{last_core}
 use Rattle.decimal.specs.Reading.{all_digits, no_leading_zero, is_number, read_as_number}
@@ -14,14 +14,6 @@ use Rattle.table.proofs.Cuts.{cut_found, cut-none, fielded, fields-found}
 use Rattle.sheet.specs.Sheet.{longest_line, last_task, card_list, goes_on, spelled_task, task_of, task_line}
 
 module _ (t c d s : ℕ) where
-  pub number-over : last_task < t → spelled_task t c d s ≡ None
-  unfolding spelled_task
-  number-over h = rw (lt-leb t last_task h)
-
-  pub core-over : t ≤ last_task → last_core < c → spelled_task t c d s ≡ None
-  unfolding spelled_task
-  core-over h k = rw (le-leb t last_task h, lt-leb c last_core k)
-
   pub is-task : t ≤ last_task → c ≤ last_core → spelled_task t c d s ≡ Some (record { number = t; core = c; deadline = d; cards = s })
   unfolding spelled_task
   is-task h k = rw (le-leb t last_task h, le-leb c last_core k)

@@ -6,9 +6,6 @@ use crate::cards::card_list;
 use table::{MOST_FIELDS, cut};
 use taskset::{LAST_CORE, Task};
 
-// The last task number.
-const LAST_TASK: u32 = 65_535;
-
 // The most bytes that a line may have, without its newline.
 pub(crate) const LONGEST_LINE: usize = 1024;
 
@@ -25,15 +22,13 @@ pub(crate) fn task_line(at: [usize; MOST_FIELDS], line: &[u8]) -> Option<Task>
 }
 
 // The task of the values of four fields; none where the number or the core is too large.
+#[tactic(auto, unfolding(crate::specs::Sheet::spelled_task))]
 fn spelled(number: u32, core: u32, deadline: u32, cards: u64) -> Option<Task>
     ensures { result ≡ spelled_task number core deadline cards }
 {
-    if LAST_TASK < number || (LAST_CORE as u32) < core {
-        return None;
-    }
     Some(Task {
-        number: number as u16,
-        core: core as u8,
+        number: u16::try_from(number).ok()?,
+        core: u8::try_from(core).ok().filter(|core| *core <= LAST_CORE)?,
         deadline,
         cards,
     })

@@ -36,6 +36,7 @@ fn read_tasks(bytes: &[u8], first: usize, at: [usize; MOST_FIELDS]) -> Option<Ta
         if TASKS <= n || tasks[..n].iter().any(|other| task.number == other.number) {
             return None;
         }
+        // (no heap: the tasks stand in an array, counted)
         tasks[n] = task;
         n += 1;
         from = to + 1;

@@ -13,22 +13,25 @@ ghost use Rattle.taskset.specs.Levels.{levels_given};
 ghost use Rattle.taskset.specs.Ceilings.{RightLevels};
 ghost use Rattle.tasklist.specs.Lists.{fill_given, filled_list, first_of};
 
-use taskset::{Groups, Levels, NotTasks, TASKS, Task, TaskSet, groups_of, levels_of};
+use taskset::{Groups, Levels, NotTasks, TASKS, Task, TaskSet, groups_of, levels_of, standing};
 
 // The task set's tasks are put into the first places of the list, and counted; refused, where there are none or the list is shorter.
 pub fn fill(list: &mut [Task], set: TaskSet) -> Result<usize, NotTasks>
     ensures answer { result ≡ fill_given (standing set) list.old }
     ensures list { list.new ≡ filled_list (standing set) list.old }
 {
-    let n = set.count;
-    if n == 0 || TASKS < n || list.len() < n {
+    let tasks = standing(&set);
+    let n = tasks.len();
+    if n == 0 || list.len() < n {
         return Err(NotTasks);
     }
-    list[..n].copy_from_slice(&set.tasks[..n]);
+    // by `[..n]`, for of what is written through `get_mut` std says the length alone
+    list[..n].copy_from_slice(tasks);
     Ok(n)
 }
 
-// The first n tasks of the list as a task set; the empty one, where the list is shorter or no task set has so many.
+// The first n tasks of the list as a task set; the empty one, where the list is shorter or no task set has so many. That is the tasks of no sheet
+// and refused as such below, so it needs no option. A list and n (paper 2: the reader answers a count), for an n above the list is refused, not cut.
 pub fn taken(list: &[Task], n: usize) -> TaskSet
     ensures { result ≡ packed (first_of n list.now) }
 {

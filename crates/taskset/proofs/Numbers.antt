@@ -1,13 +1,14 @@
 -- Lists of numbers, entry by entry: whether one stands in a list, whether all differ. A column: one number of each task.
-use mathlib.Core.Path.{◌≡◌, refl, ap, ◌∙◌}
-use mathlib.Core.Bool.{Bool, true, false, ◌||◌}
+use mathlib.Core.Path.{◌≡◌, refl, sym, ap, ◌∙◌}
+use mathlib.Core.Bool.{Bool, not, ◌||◌, ◌&&◌}
 use mathlib.Core.List.{List, [], ◌∷◌, map}
-use Prim.Native.Nat.{ℕ, zero, suc, ◌+◌, ◌≤◌, ◌<◌}
+use Prim.Native.Nat.{ℕ, zero, suc, ◌+◌, ◌-◌}
 use native.Mathlib.Numerals.{add-one}
+use native.Mathlib.Omega.{arith}
 use lib.Dec.{eqb}
-use lib.ListN.{length, get_or, drop, drop_of_length-le, get_or-map}
-use lib.Seq.{drop-cons}
-use Rattle.std.specs.List.{list_any}
+use lib.ListN.{length, get_or, take, drop, length-drop, get_or-map}
+use lib.Seq.{take_all}
+use Rattle.std.specs.List.{list_any, list_all, enumerate_from}
 use Rattle.taskset.specs.declared.Task.{Task}
 use Rattle.taskset.specs.Tasks.{no_task, occurs, all_differ}
 
@@ -28,15 +29,21 @@ pub occurs-later : (f : Task → ℕ) (ts : List Task) (i : ℕ)
 occurs-later f ts i =
     occurs-column f (f (get_or ts i no_task)) (drop (i + 1) ts) ∙ rw (get_or-map f ts i no_task, drop-column f (i + 1) ts)
 
-module _ (ns : List ℕ) (i : ℕ) where
-  pub differ-not : i < length ns → occurs (get_or ns i 0) (drop (i + 1) ns) ≡ true → all_differ (drop i ns) ≡ false
-  unfolding all_differ
-  differ-not h e = rw (drop-cons ns i 0 h, rw (add-one i) at e)
+drop-next : {A : Type 0} (i : ℕ) (xs : List A) → drop 1 (drop i xs) ≡ drop (suc i) xs
+drop-next zero xs = refl
+drop-next (suc i) [] = refl
+drop-next (suc i) (x ∷ xs) = drop-next i xs
 
-  pub differ-next : i < length ns → occurs (get_or ns i 0) (drop (i + 1) ns) ≡ false → all_differ (drop i ns) ≡ all_differ (drop (i + 1) ns)
-  unfolding all_differ
-  differ-next h e = rw (drop-cons ns i 0 h, rw (add-one i) at e, add-one i)
+-- whether the number of the task at a place stands in no later place
+abbrev pub new-at : List Task → ℕ × Task → Bool
+new-at all p = not (occurs p.1.number (map (λ (t : Task). t.number) (take (length all - (p.0 + 1)) (drop (p.0 + 1) all))))
 
-  pub differ-end : length ns ≤ i → all_differ (drop i ns) ≡ true
-  unfolding all_differ
-  differ-end h = rw (drop_of_length-le ns h)
+-- each is new where all differ
+pub all-new : (all ts : List Task) (i : ℕ) → ts ≡ drop i all → list_all (new-at all) (enumerate_from i ts) ≡ all_differ (map (λ (t : Task). t.number) ts)
+unfolding all_differ
+all-new all [] i e = refl
+all-new all (t ∷ ts) i e =
+    let next : ts ≡ drop (i + 1) all = ap (drop 1) e ∙ drop-next i all ∙ ap (λ (n : ℕ). drop n all) (sym (add-one i)) in
+    let part : take (length all - (i + 1)) (drop (i + 1) all) ≡ ts = take_all (length all - (i + 1)) (drop (i + 1) all) (omega (arith, length-drop (i + 1) all)) ∙ sym next in
+    ap (λ (us : List Task). not (occurs t.number (map (λ (t : Task). t.number) us)) && list_all (new-at all) (enumerate_from (i + 1) ts)) part
+    ∙ ap (λ (b : Bool). not (occurs t.number (map (λ (t : Task). t.number) ts)) && b) (all-new all ts (i + 1) next)

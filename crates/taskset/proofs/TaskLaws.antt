@@ -1,12 +1,11 @@
 -- Which tasks are a task set, test by test; the tasks that stand in one by value.
-use mathlib.Core.Path.{◌≡◌, refl, sym, ap, ◌∙◌}
+use mathlib.Core.Path.{◌≡◌, refl, sym, ap}
 use mathlib.Core.Bool.{Bool, true, false, ◌&&◌, true≢false}
 use mathlib.Core.List.{List, [], ◌∷◌}
 use Prim.Native.Nat.{◌-◌, ◌≤◌, ◌<◌}
-use native.Mathlib.Omega.{arith}
 use lib.Dec.{leb, ltb}
 use lib.ListN.{length, take, replicate}
-use lib.Seq.{take-append_seam, length-take-le}
+use lib.Seq.{take-append_seam}
 use borrow.Author.Tests.{le-leb, lt-leb, lt-ltb, leb-true, ltb-true}
 use Rattle.std.specs.List.{list_all}
 use Rattle.std.specs.Prelude.{Result, Ok, Err, IsErr}
@@ -26,9 +25,6 @@ module _ (s : TaskSet) where
   pub standing-none : most_tasks < s.count → standing s ≡ []
   unfolding standing
   standing-none h = rw (lt-leb s.count most_tasks h)
-
-  pub standing-long : length s.tasks ≡ most_tasks → s.count ≤ most_tasks → length (standing s) ≡ s.count
-  standing-long size h = ap (λ (ts : List Task). length ts) (standing-few h) ∙ length-take-le s.count s.tasks (omega arith)
 
 -- packed into one by value, at most 32 tasks stand as they were
 pub standing-packed : (ts : List Task) → length ts ≤ most_tasks → standing (packed ts) ≡ ts

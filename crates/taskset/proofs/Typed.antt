@@ -1,11 +1,10 @@
 -- What the types of the code say of a task set by value, whatever its fields hold. `Is` is what a function is told of a parameter that
 -- it owns.
-use mathlib.Core.Path.{◌≡◌}
 use mathlib.Core.Bool.{Bool, true, false, cond}
 use mathlib.Core.List.{List, [], ◌∷◌}
 use Prim.Native.Nat.{ℕ, zero, suc, ◌<◌, ◌^◌}
 use lib.Dec.{leb}
-use lib.ListN.{length, take}
+use lib.ListN.{take}
 use mir.Val.{Val}
 use denote.Shadow.{shadow}
 use denote.Laws.{Is}
@@ -16,9 +15,6 @@ use Rattle.taskset.specs.declared.TaskSet.{TaskSet}
 use Rattle.taskset.specs.Tasks.{most_tasks, cards_of, standing}
 use Rattle.taskset.specs.contracts.Task as TaskType
 use Rattle.taskset.specs.contracts.TaskSet as TaskSetType
-
-pub tasks-long : (s : TaskSet) (vs : List Val) → Is (TaskSetType.the_field).row ((TaskSetType.the_field).into s) vs → length s.tasks ≡ most_tasks
-tasks-long s vs p = p.1.1.0.1.0.1
 
 -- the cards of each task are a set
 cards-word : (t : Task) (vs : List Val) → Is TaskType.the_row t vs → t.cards < 2 ^ 64

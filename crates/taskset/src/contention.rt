@@ -25,6 +25,7 @@ pub(crate) fn group_cards(tasks: &[Task]) -> [u64; TASKS]
     ensures { result ≡ (grouped (groups_of (cards_of tasks.now))).cards }
 {
     let mut cards = [objset::EMPTY; TASKS];
+    // by places (tried: `cards.iter_mut().zip(tasks)`): std says nothing of an element that is written through such an iterator
     for (i, task) in tasks.iter().enumerate() {
         cards[i] = task.cards;
     }
@@ -32,7 +33,7 @@ pub(crate) fn group_cards(tasks: &[Task]) -> [u64; TASKS]
     cards
 }
 
-// A task's cards, and those of each group that they meet.
+// A task's cards, and those of each group that they meet: joined from the last group to the first, as the definition goes.
 fn reach(groups: &[u64], cards: u64) -> u64
     ensures { result ≡ reached cards groups.now }
 {

@@ -15,7 +15,7 @@ mod tasks;
 
 pub use contention::groups_of;
 pub use preemption::levels_of;
-pub use tasks::{LAST_CORE, is_task_set};
+pub use tasks::{LAST_CORE, is_task_set, standing};
 
 // The most tasks of a task set.
 pub const TASKS: usize = 32;
@@ -30,7 +30,7 @@ pub struct Task {
     pub cards: u64,
 }
 
-// The tasks stand in the first `count` places, in the sheet's order.
+// The tasks stand in the first `count` places, in the sheet's order: an array and a count (paper 2: by value; no heap).
 #[derive(Clone, Copy)]
 pub struct TaskSet {
     pub tasks: [Task; TASKS],
@@ -45,14 +45,14 @@ pub struct Level {
     pub transaction: u8,
 }
 
-// The levels of a task set, in the first `count` places, in its order.
+// The levels of a task set, in the first `count` places, in its order (paper 2: by value; no heap).
 #[derive(Clone, Copy)]
 pub struct Levels {
     pub list: [Level; TASKS],
     pub count: usize,
 }
 
-// The contention groups of a task set: in the first `count` places for each task all cards of its group.
+// The contention groups of a task set: in the first `count` places for each task all cards of its group (paper 2: by value; no heap).
 #[derive(Clone, Copy)]
 pub struct Groups {
     pub cards: [u64; TASKS],

@@ -22,12 +22,14 @@ pub fn levels_of(set: TaskSet) -> Result<Levels, NotTasks>
     Ok(Levels { list, count })
 }
 
-// The task level and the transaction level of each task; zeros past them.
+// The task level and the transaction level of each task; zeros past them. Three lists: a transaction's level asks for all groups and all task levels,
+// so each is needed whole.
 fn side_by_side(tasks: &[Task], groups: &[u64], levels: &[u8]) -> [Level; TASKS]
     requires { Columns tasks.now groups.now levels.now }
     ensures { result ≡ (levelled (levels_of tasks.now)).list }
 {
     let mut list = [Level::default(); TASKS];
+    // by places, as in `group_cards`
     for (i, task) in tasks.iter().enumerate() {
         list[i] = Level {
             number: task.number,
@@ -46,13 +48,14 @@ fn task_levels(tasks: &[Task]) -> [u8; TASKS]
     let mut deadlines = [0u32; TASKS];
     let n = different(tasks, &mut deadlines);
     let mut levels = [0u8; TASKS];
+    // by places, as in `group_cards`
     for (i, task) in tasks.iter().enumerate() {
         levels[i] = level(&deadlines[..n], task.deadline);
     }
     levels
 }
 
-// Puts the different deadlines into the first places, and counts them.
+// Puts the different deadlines into the first places of a lent list, and counts them (no heap); by places, as in `group_cards`.
 fn different(tasks: &[Task], deadlines: &mut [u32]) -> usize
     requires { length tasks.now ≤ length deadlines.old }
     ensures count { result ≡ length (distinct (deadlines_of tasks.now)) }

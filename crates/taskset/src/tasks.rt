@@ -1,6 +1,6 @@
 // Which task sets by value are one.
-ghost use Rattle.std.specs.Prelude.{◌≡◌, ◌≤◌, is_ok, IfOk, length};
-ghost use Rattle.taskset.specs.Tasks.{most_tasks, all_differ, numbers_of, standing, is_task_set};
+ghost use Rattle.std.specs.Prelude.{◌≡◌, not, ◌≤◌, is_ok, IfOk, length};
+ghost use Rattle.taskset.specs.Tasks.{most_tasks, occurs, all_differ, numbers_of, standing, is_task_set};
 
 use crate::{NotTasks, TASKS, Task, TaskSet};
 
@@ -28,7 +28,7 @@ pub(crate) fn tasks_of(set: &TaskSet) -> Result<&[Task], NotTasks>
 }
 
 // The tasks that stand; none where the count is greater than the array.
-fn standing(set: &TaskSet) -> &[Task]
+pub fn standing(set: &TaskSet) -> &[Task]
     ensures { result.now ≡ standing set.now }
 {
     set.tasks.get(..set.count).unwrap_or(&[])
@@ -47,13 +47,15 @@ fn are_task_set(tasks: &[Task]) -> bool
 fn all_differ(tasks: &[Task]) -> bool
     ensures { result ≡ all_differ (numbers_of tasks.now) }
 {
-    for (i, task) in tasks.iter().enumerate() {
-        if tasks[i + 1..]
-            .iter()
-            .any(|later| task.number == later.number)
-        {
-            return false;
-        }
-    }
-    true
+    tasks
+        .iter()
+        .enumerate()
+        .all(|(i, task)| is_new(task.number, &tasks[i + 1..]))
+}
+
+// Whether no task has this number.
+fn is_new(number: u16, tasks: &[Task]) -> bool
+    ensures { result ≡ not (occurs number (numbers_of tasks.now)) }
+{
+    !tasks.iter().any(|task| number == task.number)
 }

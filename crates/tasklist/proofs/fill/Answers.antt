@@ -1,32 +1,31 @@
 -- `tasklist::fill` meets its contract.
-use Rattle.std.proofs.Common.{◌≡◌, sym, ap, ◌∙◌, ◌++◌, false, List, length, drop, arith}
+use Rattle.std.proofs.Common.{◌≡◌, ℕ, sym, ap, ◌∙◌, ◌++◌, true, false, Ok, List, length, drop, arith}
 use Rattle.taskset.specs.declared.Task.{Task}
-use Rattle.taskset.specs.Tasks.{most_tasks, standing}
-use Rattle.taskset.proofs.Typed.{tasks-long}
+use Rattle.taskset.specs.Tasks.{standing}
 use Rattle.tasklist.specs.Lists.{have_room}
-use Rattle.tasklist.proofs.ListLaws.{refuses, keeps-list}
-use Rattle.tasklist.proofs.Copies.{no-task, no-set, no_place, put-answer, put-list}
+use Rattle.tasklist.proofs.ListLaws.{room, none-refused, short-refused, fills, fills-list, refuses, keeps-list}
 use Rattle.tasklist.proofs.fill.Goals as goal
-use Rattle.tasklist.proofs.fill.Goals.{then-n-eq0-via-then-n-eq0, then-n-eq0-via-else-n-eq0+then-n-gt-TASKS, then-n-eq0-via-else-n-eq0+else-n-gt-TASKS+then-list-n}
+use Rattle.tasklist.proofs.fill.Goals.{then-n-eq0-via-then-n-eq0, then-n-eq0-via-else-n-eq0+then-list-n}
 
 pub returns-then-n-eq0 : goal.returns-then-n-eq0
 returns-then-n-eq0 c =
-    let s = c.args.set in
+    let ts = standing c.args.set in
     let ys = c.args.list.now in
-    let long : length s.tasks ≡ most_tasks = tasks-long s _ c.well_formed.1.0 in
-    let none : have_room (standing s) ys ≡ false = elim c.then-n-eq0.branch [
-      | then-n-eq0-via-then-n-eq0 w ↦ no-task s ys long (omega arith)
-      | then-n-eq0-via-else-n-eq0+then-n-gt-TASKS w ↦ no-set s ys long (omega arith)
-      | then-n-eq0-via-else-n-eq0+else-n-gt-TASKS+then-list-n w ↦ no_place s ys long (omega arith) (omega arith)
+    let size : length c.standing-tasks.result.now ≡ length ts = ap (λ (us : List Task). length us) c.standing-tasks.ensures in
+    let none : have_room ts ys ≡ false = elim c.then-n-eq0.branch [
+      | then-n-eq0-via-then-n-eq0 w ↦ none-refused ts ys (omega (arith, size))
+      | then-n-eq0-via-else-n-eq0+then-list-n w ↦ short-refused ts ys (omega (arith, size))
     ] in
-    record { answer = sym (refuses (standing s) ys none); list = sym (keeps-list (standing s) ys none) }
+    record { answer = sym (refuses ts ys none); list = sym (keeps-list ts ys none) }
 
 pub returns : goal.returns
 returns c =
-    let s = c.args.set in
+    let ts = standing c.args.set in
     let ys = c.args.list.now in
-    let long : length s.tasks ≡ most_tasks = tasks-long s _ c.well_formed.1.0 in
+    let same : c.standing-tasks.result.now ≡ ts = c.standing-tasks.ensures in
+    let size : length c.standing-tasks.result.now ≡ length ts = ap (λ (us : List Task). length us) same in
+    let has_room : have_room ts ys ≡ true = room ts ys (omega (arith, size)) (omega (arith, size)) in
     record {
-      answer = put-answer s ys long (omega arith) (omega arith) (omega arith);
-      list = ap (λ (ts : List Task). ts ++ drop s.count ys) c.copy_from_slice.ensures.after ∙ put-list s ys long (omega arith) (omega arith) (omega arith);
+      answer = ap Ok size ∙ sym (fills ts ys has_room);
+      list = ap (λ (us : List Task). us ++ drop (length c.standing-tasks.result.now) ys) (c.copy_from_slice.ensures.after ∙ same) ∙ ap (λ (n : ℕ). ts ++ drop n ys) size ∙ sym (fills-list ts ys has_room);
     }
