@@ -43,12 +43,13 @@ card_list field = cond (bytes_eq field (ascii "-")) (Some none) (rising 0 none (
 
 -- ---- a line of a task
 
--- what a field reads as: the line goes on with it, and is malformed where the field is
+-- what a field reads as: the line goes on with it, and is malformed where the field is (std's `option_and_then`, the field first)
 unfoldable pub goes_on : Option ℕ → (ℕ → Option Task) → Option Task
 goes_on None k = None
 goes_on (Some n) k = k n
 
--- the task of a number, a core, a deadline and a set of cards; none where the number or the core is too large
+-- the task of a number, a core, a deadline and a set of cards; none where the number or the core is too large (a deadline may be any
+-- number that reads)
 unfoldable pub spelled_task : ℕ → ℕ → ℕ → ℕ → Option Task
 spelled_task t c d s = cond (leb t last_task && leb c last_core) (Some (record { number = t; core = c; deadline = d; cards = s })) None
 
