@@ -33,9 +33,9 @@ fn how_many(line: &[u8]) -> usize
 
 impl Fields<'_> {
     // The place of the first field that is this name.
-    fn place(self, name: &[u8]) -> Option<usize>
-        requires { Fielded self }
-        ensures { let fs = fields_by self.entry in SomeIff result (place name.now fs < length fs) (place name.now fs) }
+    fn place(&self, name: &[u8]) -> Option<usize>
+        requires { Fielded self.now }
+        ensures { let fs = fields_by self.now in SomeIff result (place name.now fs < length fs) (place name.now fs) }
     {
         (0..self.count).find(|&i| self.part(i) == name)
     }

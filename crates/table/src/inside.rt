@@ -6,9 +6,9 @@ use crate::Fields;
 
 impl<'a> Fields<'a> {
     // The bytes of a field of the line, counted from 0; none past the last.
-    pub fn part(self, n: usize) -> &'a [u8]
-        requires { Fielded self }
-        ensures { result.now ≡ get_or (fields_by self.entry) n [] }
+    pub fn part(&self, n: usize) -> &'a [u8]
+        requires { Fielded self.now }
+        ensures { result.now ≡ get_or (fields_by self.now) n [] }
     {
         if self.count <= n {
             return &[];
