@@ -5,7 +5,6 @@ use Prim.Native.Nat.{ℕ}
 use denote.Ref.{Bor}
 use Rattle.std.specs.Prelude.{Option, Some, None, option_map}
 use Rattle.decimal.specs.Bytes.{ascii}
-use Rattle.table.specs.declared.Fields.{Fields}
 use Rattle.table.specs.Pieces.{onto, pieces}
 use Rattle.table.specs.Fields.{until_byte, piece_end, field_end, after_field, fields_of, place, places_of, all_stand, columns, columns_of}
 use Rattle.table.specs.Cut.{filled, beginnings, marked, cut_of, held_places}
