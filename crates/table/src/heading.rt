@@ -6,7 +6,6 @@ ghost use Rattle.table.specs.Fields.{place, columns_of};
 ghost use Rattle.table.specs.Cut.{fields_by, held_places, Fielded};
 
 use crate::cutting::cut;
-use crate::reader::next_from;
 use crate::{Fields, MOST_FIELDS};
 
 // Where each of the names stands in a line of names; none, where the line is malformed. `names` has them in their plain order, one space
