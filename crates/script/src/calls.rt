@@ -10,10 +10,10 @@ pub fn parse(at: Columns, line: &[u8]) -> Option<Call>
     ensures { result ≡ spells at line.now }
 {
     let f = cut(line, LONGEST, 4)?;
-    let called = verb(f.part(line, at.call))?;
-    let core = field(f.part(line, at.core))?;
-    let card = field(f.part(line, at.card))?;
-    let value = field(f.part(line, at.value))?;
+    let called = verb(f.part(at.call))?;
+    let core = field(f.part(at.core))?;
+    let card = field(f.part(at.card))?;
+    let value = field(f.part(at.value))?;
     spelt(called, core, card, value)
 }
 

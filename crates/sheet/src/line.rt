@@ -14,10 +14,10 @@ pub(crate) fn task_line(at: [usize; MOST_FIELDS], line: &[u8]) -> Option<Task>
     ensures { result ≡ task_line at line.now }
 {
     let fields = cut(line, LONGEST_LINE, 4)?;
-    let number = decimal::read(fields.part(line, at[0]))?;
-    let core = decimal::read(fields.part(line, at[1]))?;
-    let deadline = decimal::read(fields.part(line, at[2]))?;
-    let cards = card_list(fields.part(line, at[3]))?;
+    let number = decimal::read(fields.part(at[0]))?;
+    let core = decimal::read(fields.part(at[1]))?;
+    let deadline = decimal::read(fields.part(at[2]))?;
+    let cards = card_list(fields.part(at[3]))?;
     spelled(number, core, deadline, cards)
 }
 

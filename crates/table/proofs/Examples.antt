@@ -2,9 +2,9 @@
 use mathlib.Core.Path.{◌≡◌, refl}
 use mathlib.Core.List.{List, [], ◌∷◌, map}
 use Prim.Native.Nat.{ℕ}
-use Rattle.std.specs.Prelude.{Option, Some, None}
+use denote.Ref.{Bor}
+use Rattle.std.specs.Prelude.{Option, Some, None, option_map}
 use Rattle.decimal.specs.Bytes.{ascii}
-use Rattle.table.specs.declared.Fields.{Fields}
 use Rattle.table.specs.Pieces.{onto, pieces}
 use Rattle.table.specs.Fields.{until_byte, piece_end, field_end, after_field, fields_of, place, places_of, all_stand, columns, columns_of}
 use Rattle.table.specs.Cut.{filled, beginnings, marked, cut_of, held_places}
@@ -52,20 +52,20 @@ each-fields = refl
 
 -- ---- what `cut` finds of the same kind of lines: where the fields begin, where one more would, and how many there are
 
-abbrev cut_rows : List (ℕ × ℕ × List ℕ × Option Fields)
+abbrev cut_rows : List (ℕ × ℕ × List ℕ × Option (List ℕ × ℕ))
 cut_rows =
-    (7, 3, ascii "a bb cc", Some (record { begins = 0 ∷ 2 ∷ 5 ∷ 8 ∷ 0 ∷ 0 ∷ []; count = 3 }))
-    ∷ (9, 2, ascii "a ", Some (record { begins = 0 ∷ 2 ∷ 3 ∷ 0 ∷ 0 ∷ 0 ∷ []; count = 2 }))
-    ∷ (9, 1, [], Some (record { begins = 0 ∷ 1 ∷ 0 ∷ 0 ∷ 0 ∷ 0 ∷ []; count = 1 }))
-    ∷ (9, 5, ascii "a b c d e", Some (record { begins = 0 ∷ 2 ∷ 4 ∷ 6 ∷ 8 ∷ 10 ∷ []; count = 5 }))
+    (7, 3, ascii "a bb cc", Some (0 ∷ 2 ∷ 5 ∷ 8 ∷ 0 ∷ 0 ∷ [], 3))
+    ∷ (9, 2, ascii "a ", Some (0 ∷ 2 ∷ 3 ∷ 0 ∷ 0 ∷ 0 ∷ [], 2))
+    ∷ (9, 1, [], Some (0 ∷ 1 ∷ 0 ∷ 0 ∷ 0 ∷ 0 ∷ [], 1))
+    ∷ (9, 5, ascii "a b c d e", Some (0 ∷ 2 ∷ 4 ∷ 6 ∷ 8 ∷ 10 ∷ [], 5))
     -- too long, and more fields than are ever looked for
     ∷ (6, 3, ascii "a bb cc", None)
     ∷ (11, 6, ascii "a b c d e f", None)
     ∷ []
 
-each-cut : map (λ row. cut_of row.0 row.1 row.2) cut_rows ≡ map (λ row. row.3) cut_rows
+each-cut : (at : Bor (List ℕ)) → map (λ row. option_map (λ f. (f.begins, f.count)) (cut_of row.0 row.1 (record at { now = row.2 }))) cut_rows ≡ map (λ row. row.3) cut_rows
 unfolding cut_of marked filled beginnings after_field field_end piece_end until_byte fields_of pieces onto
-each-cut = refl
+each-cut at = refl
 
 -- ---- lines of names: the names, the longest line, the line, the place of each name
 

@@ -4,6 +4,7 @@ use mathlib.Core.List.{List, [], ◌∷◌, ◌++◌}
 use Prim.Native.Nat.{ℕ, suc, ◌+◌, ◌-◌, ◌≤◌, ◌<◌}
 use native.Mathlib.Numerals.{add-one}
 use native.Mathlib.Omega.{arith}
+use denote.Ref.{Bor}
 use lib.ListN.{length, get_or, set}
 use Rattle.std.specs.Prelude.{Some, None}
 use Rattle.table.specs.Pieces.{pieces}
@@ -34,25 +35,25 @@ module _ (line : List ℕ) (places : List ℕ) (i : ℕ) (some : 1 ≤ i) (few :
 
 -- ---- as many fields as were asked for, or more or fewer
 
-module _ (longest count : ℕ) (line : List ℕ) (short : length line ≤ longest) (some : 1 ≤ count) (last : ℕ) (e : last ≡ begin line 0 (count - 1)) where
-  pub fewer : length line < last → cut_of longest count line ≡ None
-  fewer h = cut-nothing longest count line (not-so-many longest count line short (λ n. omega (arith, no-further line (count - 1) last e h)))
+module _ (longest count : ℕ) (line : Bor (List ℕ)) (short : length line.now ≤ longest) (some : 1 ≤ count) (last : ℕ) (e : last ≡ begin line.now 0 (count - 1)) where
+  pub fewer : length line.now < last → cut_of longest count line ≡ None
+  fewer h = cut-nothing longest count line (not-so-many longest count line.now short (λ n. omega (arith, no-further line.now (count - 1) last e h)))
 
-  module _ (h : last ≤ length line) where
-    past-last : (field_end line last + 1 ≡ begin line 0 count) × (count - 1 < length (pieces 32 line))
+  module _ (h : last ≤ length line.now) where
+    past-last : (field_end line.now last + 1 ≡ begin line.now 0 count) × (count - 1 < length (pieces 32 line.now))
     past-last =
-        let further = one_further line (count - 1) last e h (field_end line last + 1) (sym (after-end line last h)) in
+        let further = one_further line.now (count - 1) last e h (field_end line.now last + 1) (sym (after-end line.now last h)) in
         let back : count - 1 + 1 ≡ count = omega arith in
-        (further.0 ∙ ap (begin line 0) back, further.3)
+        (further.0 ∙ ap (begin line.now 0) back, further.3)
 
-    pub over : field_end line last < length line → cut_of longest count line ≡ None
+    pub over : field_end line.now last < length line.now → cut_of longest count line ≡ None
     over k =
-        let within : begin line 0 count ≤ length line = omega (arith, past-last) in
-        cut-nothing longest count line (not-so-many longest count line short (λ n. omega (arith, (more line count 0 (omega arith)).1 within)))
+        let within : begin line.now 0 count ≤ length line.now = omega (arith, past-last) in
+        cut-nothing longest count line (not-so-many longest count line.now short (λ n. omega (arith, (more line.now count 0 (omega arith)).1 within)))
 
-    pub exact : length line ≤ field_end line last → count ≤ most_fields → (cut_of longest count line ≡ Some (marked count line)) × (length line + 1 ≡ begin line 0 count)
+    pub exact : length line.now ≤ field_end line.now last → count ≤ most_fields → (cut_of longest count line ≡ Some (marked count line)) × (length line.now + 1 ≡ begin line.now 0 count)
     unfolding field_end
     exact k few =
-        let there : length line + 1 ≡ begin line 0 count = omega (arith, past-last, inside 32 line last (field_end line last) refl h) in
-        let size : length (pieces 32 line) ≡ count = omega (arith, past-last, no-further line count (length line + 1) there (omega arith)) in
+        let there : length line.now + 1 ≡ begin line.now 0 count = omega (arith, past-last, inside 32 line.now last (field_end line.now last) refl h) in
+        let size : length (pieces 32 line.now) ≡ count = omega (arith, past-last, no-further line.now count (length line.now + 1) there (omega arith)) in
         (cut-all longest count line few short size, there)

@@ -7,6 +7,7 @@ use Prim.Native.Nat.{ℕ, ◌+◌, ◌≤◌, ◌<◌}
 use native.Mathlib.Decide.{dec_lt}
 use native.Mathlib.Numerals.{add-one}
 use native.Mathlib.Omega.{arith}
+use denote.Ref.{Bor}
 use lib.ListN.{length, get_or, take, set}
 use lib.Seq.{take-suc, take_all, length-take-le}
 use borrow.Author.Tests.{lt-ltb, le-leb, lt-leb}
@@ -14,9 +15,9 @@ use Rattle.std.specs.Prelude.{Some, None}
 use Rattle.table.specs.declared.Fields.{Fields}
 use Rattle.table.specs.Pieces.{pieces}
 use Rattle.table.specs.Fields.{fields_of, place, places_of, all_stand, columns, columns_of}
-use Rattle.table.specs.Cut.{most_fields, filled, cut_of, Fielded, fields_by, held_places}
+use Rattle.table.specs.Cut.{most_fields, filled, marked, cut_of, Fielded, fields_by, held_places}
 use Rattle.table.proofs.Laws.{first, others, some-piece}
-use Rattle.table.proofs.Cuts.{so-many, at_most, cut-none, cut_found, fielded, how-many, fields-found, how-many-found}
+use Rattle.table.proofs.Cuts.{so-many, at_most, cut-none, cut_found, fielded, found_in, how-many-found}
 use Rattle.table.proofs.Filling.{fill-next, filled_in}
 use Rattle.table.proofs.Places.{places-one-more, how-many-places, stand-one-more, each_stands, nth-place, all-columns, placed-or-not, none-stand}
 
@@ -64,58 +65,59 @@ module _ (names : List (List ℕ)) (longest : ℕ) (line : List ℕ) where
 
 -- ---- the names of one line, found in another
 
-module _ (names line : List ℕ) (longest count : ℕ) (n : count ≡ length (pieces 32 names)) where
+module _ (names line : Bor (List ℕ)) (longest count : ℕ) (n : count ≡ length (pieces 32 names.now)) where
   abbrev ns : List (List ℕ)
-  ns = pieces 32 names
+  ns = pieces 32 names.now
 
-  -- there are more names than a line may have fields
-  pub names-uncut : cut_of (length names) count names ≡ None → held_places (columns_of ns longest line) ≡ None
+  -- there are more names.now than a line.now may have fields
+  pub names-uncut : cut_of (length names.now) count names ≡ None → held_places (columns_of ns longest line.now) ≡ None
   names-uncut none =
-      dite (dec_lt most_fields count) (λ h. too_many ns longest line (omega arith))
+      dite (dec_lt most_fields count) (λ h. too_many ns longest line.now (omega arith))
       (λ h.
-      let all = so-many (length names) count names (omega arith) (sym n) in
-      absurd (omega (arith, ap length (cut-none (length names) count names none (omega arith)), ap length all, ap length (some-piece 32 names))))
+      let all = so-many (length names.now) count names.now (omega arith) (sym n) in
+      absurd (omega (arith, ap length (cut-none (length names.now) count names none (omega arith)), ap length all, ap length (some-piece 32 names.now))))
 
-  -- no fields: the names stand nowhere
-  pub line-uncut : cut_of longest count line ≡ None → held_places (columns_of ns longest line) ≡ None
+  -- no fields: the names.now stand nowhere
+  pub line-uncut : cut_of longest count line ≡ None → held_places (columns_of ns longest line.now) ≡ None
   unfolding columns_of
   line-uncut none =
-      dite (dec_lt most_fields count) (λ h. too_many ns longest line (omega arith))
+      dite (dec_lt most_fields count) (λ h. too_many ns longest line.now (omega arith))
       (λ h.
-      let empty : fields_of longest (length ns) line ≡ [] = rw n at (cut-none longest count line none (omega arith)) in
+      let empty : fields_of longest (length ns) line.now ≡ [] = rw n at (cut-none longest count line none (omega arith)) in
       ap held_places
-      (ap (columns ns) empty ∙ ap (λ (ms : List (List ℕ)). columns ms []) (some-piece 32 names)
-      ∙ none-stand (first (pieces 32 names)) (others (pieces 32 names))) ∙ held-none)
+      (ap (columns ns) empty ∙ ap (λ (ms : List (List ℕ)). columns ms []) (some-piece 32 names.now)
+      ∙ none-stand (first (pieces 32 names.now)) (others (pieces 32 names.now))) ∙ held-none)
 
-  module _ {wanted f : Fields} (w : cut_of (length names) count names ≡ Some wanted) (e : cut_of longest count line ≡ Some f) where
+  module _ {wanted f : Fields} (w : cut_of (length names.now) count names ≡ Some wanted) (e : cut_of longest count line ≡ Some f) where
     abbrev fs : List (List ℕ)
-    fs = fields_by f line
+    fs = fields_by f
 
-    in_names : Fielded names wanted
-    in_names = fielded (length names) count names w
+    in_names : Fielded wanted
+    in_names = fielded (length names.now) count names w
 
-    in_line : Fielded line f
+    in_line : Fielded f
     in_line = fielded longest count line e
 
     few : count ≤ most_fields
     few = (cut_found longest count line e).few
 
     pub all : f.count ≡ count
-    all = how-many in_line ∙ (cut_found longest count line e).all
+    unfolding marked
+    all = ap (λ (g : Fields). g.count) (cut_found longest count line e).marks
 
     size : length fs ≡ count
     size = how-many-found in_line ∙ all
 
-    the-columns : columns_of ns longest line ≡ columns ns fs
+    the-columns : columns_of ns longest line.now ≡ columns ns fs
     unfolding columns_of
     the-columns =
-        let fields : fields_of longest (length ns) line ≡ pieces 32 line = rw n at (cut_found longest count line e).fields in
-        ap (columns ns) (fields ∙ sym (fields-found in_line))
+        let fields : fields_of longest (length ns) line.now ≡ pieces 32 line.now = rw n at (cut_found longest count line e).fields in
+        ap (columns ns) (fields ∙ sym (found_in longest count line e))
 
     -- a name that stands
-    module _ (i : ℕ) (h : i < count) (name : List ℕ) (is : name ≡ get_or (fields_by wanted names) i []) where
+    module _ (i : ℕ) (h : i < count) (name : List ℕ) (is : name ≡ get_or (fields_by wanted) i []) where
       named : name ≡ get_or ns i []
-      named = is ∙ ap (λ (ms : List (List ℕ)). get_or ms i []) (fields-found in_names)
+      named = is ∙ ap (λ (ms : List (List ℕ)). get_or ms i []) (found_in (length names.now) count names w)
 
       next : take (i + 1) ns ≡ take i ns ++ (get_or ns i [] ∷ [])
       next = ap (λ (k : ℕ). take k ns) (add-one i) ∙ take-suc ns i [] (omega (arith, n))
@@ -130,7 +132,7 @@ module _ (names line : List ℕ) (longest count : ℕ) (n : count ≡ length (pi
       name-stands k a = rw next (stand-one-more fs (take i ns) (get_or ns i []) a (rw named at k))
 
       -- a name that is missing
-      pub name-missing : (place name fs < length fs → ⊥) → held_places (columns_of ns longest line) ≡ None
+      pub name-missing : (place name fs < length fs → ⊥) → held_places (columns_of ns longest line.now) ≡ None
       name-missing k =
           ap held_places the-columns
           ∙ ⊎_elim
@@ -140,11 +142,11 @@ module _ (names line : List ℕ) (longest count : ℕ) (n : count ≡ length (pi
 
     -- after the last name
     pub names-placed : (i : ℕ) (places : List ℕ) → count ≤ i → places ≡ filled most_fields most_fields (places_of (take i ns) fs)
-        → all_stand (take i ns) fs ≡ true → held_places (columns_of ns longest line) ≡ Some places
+        → all_stand (take i ns) fs ≡ true → held_places (columns_of ns longest line.now) ≡ Some places
     names-placed i places h p a =
         let whole : take i ns ≡ ns = take_all i ns (omega (arith, n)) in
         let columns-are : columns ns fs ≡ places_of ns fs = all-columns fs ns (rw whole at a) in
         let many : length (places_of ns fs) ≡ count = how-many-places fs ns ∙ sym n in
         ap held_places (the-columns ∙ columns-are)
-        ∙ held-some (places_of ns fs) (omega (arith, many, n, ap length (some-piece 32 names))) (omega (arith, many, few))
+        ∙ held-some (places_of ns fs) (omega (arith, many, n, ap length (some-piece 32 names.now))) (omega (arith, many, few))
         ∙ ap Some (sym (p ∙ ap (λ (ms : List (List ℕ)). filled most_fields most_fields (places_of ms fs)) whole))

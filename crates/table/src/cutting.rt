@@ -7,8 +7,8 @@ use crate::{Fields, MOST_FIELDS};
 
 // Finds where the fields of a line begin by the line reader, one pass over it. None are found where the line is longer than `longest`,
 // where it has more or fewer than `count`, and where `count` is 0 or above `MOST_FIELDS`.
-pub fn cut(line: &[u8], longest: usize, count: usize) -> Option<Fields>
-    ensures { result ≡ cut_of longest count line.now }
+pub fn cut(line: &[u8], longest: usize, count: usize) -> Option<Fields<'_>>
+    ensures { result ≡ cut_of longest count line.entry }
 {
     if longest < line.len() || count == 0 || MOST_FIELDS < count {
         return None;
@@ -22,5 +22,9 @@ pub fn cut(line: &[u8], longest: usize, count: usize) -> Option<Fields>
         return None;
     }
     begins[count] = line.len() + 1;
-    Some(Fields { begins, count })
+    Some(Fields {
+        line,
+        begins,
+        count,
+    })
 }

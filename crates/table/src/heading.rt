@@ -1,4 +1,4 @@
-// The line of names: where each name stands. `Fields::place` asks that the fields are the line's.
+// The line of names: where each name stands. `Fields::place` asks that the fields are those that were found in the line.
 ghost use Rattle.std.specs.Prelude.{◌≡◌, ◌<◌, SomeIff, length};
 ghost use Rattle.decimal.specs.Bytes.{byte};
 ghost use Rattle.table.specs.Pieces.{pieces};
@@ -6,7 +6,6 @@ ghost use Rattle.table.specs.Fields.{place, columns_of};
 ghost use Rattle.table.specs.Cut.{fields_by, held_places, Fielded};
 
 use crate::cutting::cut;
-use crate::reader::next_from;
 use crate::{Fields, MOST_FIELDS};
 
 // Where each of the names stands in a line of names; none, where the line is malformed. `names` has them in their plain order, one space
@@ -19,7 +18,7 @@ pub fn order(names: &[u8], line: &[u8], longest: usize) -> Option<[usize; MOST_F
     let f = cut(line, longest, count)?;
     let mut places = [MOST_FIELDS; MOST_FIELDS];
     for i in 0..count {
-        places[i] = f.place(line, wanted.part(names, i))?;
+        places[i] = f.place(wanted.part(i))?;
     }
     Some(places)
 }
@@ -31,12 +30,12 @@ fn how_many(line: &[u8]) -> usize
     line.iter().filter(|b| **b == b' ').count() + 1
 }
 
-impl Fields {
+impl Fields<'_> {
     // The place of the first field that is this name.
-    fn place(self, line: &[u8], name: &[u8]) -> Option<usize>
-        requires { Fielded line.now self }
-        ensures { let fs = fields_by self line.now in SomeIff result (place name.now fs < length fs) (place name.now fs) }
+    fn place(&self, name: &[u8]) -> Option<usize>
+        requires { Fielded self.now }
+        ensures { let fs = fields_by self.now in SomeIff result (place name.now fs < length fs) (place name.now fs) }
     {
-        (0..self.count).find(|&i| self.part(line, i) == name)
+        (0..self.count).find(|&i| self.part(i) == name)
     }
 }

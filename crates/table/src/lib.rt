@@ -20,9 +20,10 @@ pub use heading::order;
 // The most fields that a line may have; what is held past the places of the names.
 pub const MOST_FIELDS: usize = 5;
 
-// Where the fields of a line begin, and past the last where one more would.
+// A lent line and where its fields begin, and past the last where one more would.
 #[derive(Clone, Copy)]
-pub struct Fields {
+pub struct Fields<'a> {
+    pub line: &'a [u8],
     pub begins: [usize; MOST_FIELDS + 1],
     pub count: usize,
 }

@@ -10,7 +10,7 @@ use Rattle.table.proofs.Fields.part.Goals as goal
 -- no field past the last
 pub returns-then-self-n : goal.returns-then-self-n
 returns-then-self-n c =
-    sym (get_or-eq_default (fields_by c.args.self c.args.line.now) [] (omega (arith, how-many-found c.requires)))
+    sym (get_or-eq_default (fields_by c.args.self.now) [] (omega (arith, how-many-found c.requires)))
 
 pub offset_bounds-self-n : goal.offset_bounds-self-n
 offset_bounds-self-n c = omega (arith, few-found c.requires)

@@ -13,9 +13,9 @@ use Rattle.table.proofs.Fields.place.Goals as goal
 
 pub returns : goal.returns
 returns c =
-    let fs = fields_by c.args.self c.args.line.now in
+    let fs = fields_by c.args.self.now in
     let name = c.args.name.now in
-    first_is name fs c.args.self.count (how-many-found c.requires) c.find.result
+    first_is name fs c.args.self.now.count (how-many-found c.requires) c.find.result
     (first_from_Range _ _ _ _ (λ i. bytes_eq (get_or fs i []) name ≡ true) (λ i. bytes_eq (get_or fs i []) name ≡ false) c.find.ensures.ran
     (λ x q k. search rules)
     (λ x q k. (search rules, search rules)))

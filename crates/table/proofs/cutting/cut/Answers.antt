@@ -22,9 +22,9 @@ returns-then-longest-line c =
     let count = c.args.count in
     sym
     (elim c.then-longest-line.branch [
-      | then-longest-line-via-then-longest-line w ↦ cut-nothing longest count line (no_fields longest count line w.if-longest-line.true)
-      | then-longest-line-via-else-longest-line+then-count-eq0 w ↦ cut-nothing longest count line (none-asked longest count line w.if-count-eq0.true)
-      | then-longest-line-via-else-longest-line+else-count-eq0+then-count-gt-MOST_FIELDS w ↦ cut-over longest count line w.if-count-gt-MOST_FIELDS.true
+      | then-longest-line-via-then-longest-line w ↦ cut-nothing longest count c.args.line (no_fields longest count line w.if-longest-line.true)
+      | then-longest-line-via-else-longest-line+then-count-eq0 w ↦ cut-nothing longest count c.args.line (none-asked longest count line w.if-count-eq0.true)
+      | then-longest-line-via-else-longest-line+else-count-eq0+then-count-gt-MOST_FIELDS w ↦ cut-over longest count c.args.line w.if-count-gt-MOST_FIELDS.true
     ])
 
 pub loop-i-init : goal.loop-i-init
@@ -61,15 +61,15 @@ returns-then-line-last c =
     let short : length (L at) ≤ c.args.longest = omega arith in
     sym
     (elim c.then-line-last.branch [
-      | then-line-last-via-then-line-last w ↦ fewer c.args.longest (N at) (L at) short (omega arith) _ (last at) w.if-line-last.true
-      | then-line-last-via-else-line-last+then-end_from-line w ↦ over c.args.longest (N at) (L at) short (omega arith) _ (last at) w.if-line-last.false (omega (arith, w.if-end_from-line.true, w.end_from.ensures))
+      | then-line-last-via-then-line-last w ↦ fewer c.args.longest (N at) c.args.line short (omega arith) _ (last at) w.if-line-last.true
+      | then-line-last-via-else-line-last+then-end_from-line w ↦ over c.args.longest (N at) c.args.line short (omega arith) _ (last at) w.if-line-last.false (omega (arith, w.if-end_from-line.true, w.end_from.ensures))
     ])
 
 pub returns : goal.returns
 unfolding marked
 returns c =
     let short : length (L (goal.at.returns c).After-loop-i) ≤ c.args.longest = omega arith in
-    let all = exact c.args.longest (N (goal.at.returns c).After-loop-i) (L (goal.at.returns c).After-loop-i) short (omega arith) _ (last (goal.at.returns c).After-loop-i) c.if-line-last.false
+    let all = exact c.args.longest (N (goal.at.returns c).After-loop-i) c.args.line short (omega arith) _ (last (goal.at.returns c).After-loop-i) c.if-line-last.false
     (omega (arith, ltb-false, c.end_from.ensures)) (few (goal.at.returns c).At-loop-i) in
     let places = one-added (L (goal.at.returns c).After-loop-i) c.loop-i.begins (N (goal.at.returns c).After-loop-i) (omega arith) (few (goal.at.returns c).At-loop-i) (all-begun (goal.at.returns c).After-loop-i) _ all.1 in
     rw (all.0, places, add-one)

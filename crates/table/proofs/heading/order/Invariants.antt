@@ -9,5 +9,5 @@ use Rattle.table.proofs.heading.order.Given as goal
 
 abbrev pub invariant-loop-i : goal.invariant-loop-i
 invariant-loop-i l =
-    (l.places ≡ filled most_fields most_fields (places_of (take l.i (pieces 32 l.names)) (fields_by l.f l.line)))
-    × (all_stand (take l.i (pieces 32 l.names)) (fields_by l.f l.line) ≡ true)
+    (l.places ≡ filled most_fields most_fields (places_of (take l.i (pieces 32 l.names)) (fields_by l.f)))
+    × (all_stand (take l.i (pieces 32 l.names)) (fields_by l.f) ≡ true)
