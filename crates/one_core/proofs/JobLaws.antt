@@ -1,12 +1,11 @@
 -- The law of `least` of one job, and the laws of `without`.
-use Rattle.std.specs.Prelude.{◌≡◌, ℕ, zero, suc, ◌+◌, ◌-◌, ◌<◌, ◌≤◌, max, Bool, true, false, cond, ltb, List, [], ◌∷◌, ◌++◌, length, get_or, take, drop, set}
+use Rattle.std.specs.Prelude.{◌≡◌, ℕ, suc, ◌+◌, ◌-◌, ◌<◌, Bool, true, false, cond, ltb, List, [], ◌∷◌, ◌++◌, length, get_or, take, drop, set}
 use mathlib.Core.Path.{refl, ap, ap₂, ◌∙◌}
 use native.Mathlib.Numerals.{add-one}
 use native.Mathlib.Omega.{arith}
 use lib.ListN.{length-append, length-drop}
 use lib.Seq.{set_split, length-take-le, take_all}
 use Rattle.std.proofs.lemmas.List.{take-append-le, drop_all}
-use borrow.Author.Tests.{lt-ltb, le-ltb}
 use Rattle.std.specs.List.{copy_within}
 use Rattle.one_core.specs.declared.Job.{Job}
 use Rattle.one_core.specs.Parts.{no_job, least}
