@@ -1,12 +1,11 @@
--- The laws of `least`, one for each turn of the search for it, and of `without`.
-use Rattle.std.specs.Prelude.{◌≡◌, ℕ, zero, suc, ◌+◌, ◌-◌, ◌<◌, ◌≤◌, max, Bool, true, false, cond, ltb, List, [], ◌∷◌, ◌++◌, length, get_or, take, drop, set}
+-- The law of `least` of one job, and the laws of `without`.
+use Rattle.std.specs.Prelude.{◌≡◌, ℕ, suc, ◌+◌, ◌-◌, ◌<◌, Bool, true, false, cond, ltb, List, [], ◌∷◌, ◌++◌, length, get_or, take, drop, set}
 use mathlib.Core.Path.{refl, ap, ap₂, ◌∙◌}
 use native.Mathlib.Numerals.{add-one}
 use native.Mathlib.Omega.{arith}
 use lib.ListN.{length-append, length-drop}
 use lib.Seq.{set_split, length-take-le, take_all}
 use Rattle.std.proofs.lemmas.List.{take-append-le, drop_all}
-use borrow.Author.Tests.{lt-ltb, le-ltb}
 use Rattle.std.specs.List.{copy_within}
 use Rattle.one_core.specs.declared.Job.{Job}
 use Rattle.one_core.specs.Parts.{no_job, least}
@@ -19,22 +18,6 @@ least-one jobs = go (ltb (get_or jobs 0 no_job).deadline (get_or jobs 0 no_job).
     go : (b : Bool) → ◌≡◌ {A = ℕ} (cond b 0 0) 0
     go true = refl
     go false = refl
-
--- a job of smaller deadline takes the place of the least so far
-pub least-taken : (jobs : List Job) (i : ℕ) → (get_or jobs i no_job).deadline < (get_or jobs (least jobs i) no_job).deadline → least jobs (i + 1) ≡ i
-unfolding least
-least-taken jobs i h = ap (least jobs) (add-one i) ∙ rw (lt-ltb _ _ h) refl
-
--- any other leaves it
-pub least-left : (jobs : List Job) (i : ℕ) → (get_or jobs (least jobs i) no_job).deadline ≤ (get_or jobs i no_job).deadline → least jobs (i + 1) ≡ least jobs i
-unfolding least
-least-left jobs i h = ap (least jobs) (add-one i) ∙ rw (le-ltb _ _ h) refl
-
--- the search ends at n, or at 1 where there is no job
-pub least-found : (jobs : List Job) (n i best : ℕ) → n ≤ i → i ≤ max n 1 → 0 < i → best ≡ least jobs i → best ≡ least jobs n
-unfolding least
-least-found jobs zero i best p q r e = let one : i ≡ 1 = omega arith in e ∙ ap (least jobs) one ∙ least-one jobs
-least-found jobs (suc n) i best p q r e = let all : i ≡ suc n = omega arith in e ∙ ap (least jobs) all
 
 -- ---- a job leaves the list
 

@@ -1,5 +1,6 @@
 pub mod TestLaws
 pub mod JobLaws
+mod LeastTurns
 pub mod Jobs
 pub mod LifeLaws
 mod TidyLaws

@@ -11,13 +11,11 @@ impl Core {
         requires { self.now.count ≤ most_jobs }
         ensures { result ≡ least self.now.jobs self.now.count }
     {
-        let mut best = 0;
-        for i in 1..self.count {
-            if self.jobs[i as usize].deadline < self.jobs[best as usize].deadline {
-                best = i;
-            }
+        let listed = &self.jobs[..self.count as usize];
+        match listed.iter().enumerate().min_by_key(|p| p.1.deadline) {
+            Some((i, _)) => i as u8,
+            None => 0,
         }
-        best
     }
 
     // The place of the running job: the transaction's own job while one is in progress, else the job of least deadline.

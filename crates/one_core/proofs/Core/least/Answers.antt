@@ -1,36 +1,27 @@
--- `one_core::Core::least` meets its contract: before the turn of place i, the best so far is the least of the first i.
-use Rattle.std.specs.Prelude.{◌≡◌, ℕ, List}
-use mathlib.Core.Path.{sym, ◌∙◌}
+-- `one_core::Core::least` meets its contract: `min_by_key` keeps the first of the least among the places and jobs of the list.
+use Rattle.std.proofs.Common.{rules, tests, ◌≡◌, ℕ, ◌∷◌, Bor}
+use Rattle.one_core.specs.Parts.{least}
+use Rattle.one_core.proofs.LeastTurns.{whole, taken-turn}
+use Rattle.std.specs.Prelude.{take}
+use Rattle.std.proofs.lemmas.Iterator.{items_from_drains, YieldsList-from_slice}
+use Rattle.std.proofs.lemmas.Iterator.Consumers.{YieldsList-from_enumerate}
+use mathlib.Core.Path.{ap, sym}
 use native.Mathlib.Omega.{arith}
 use Rattle.one_core.specs.declared.Job.{Job}
-use Rattle.one_core.specs.Parts.{least}
-use Rattle.one_core.proofs.JobLaws.{least-one, least-taken, least-left, least-found}
 use Rattle.one_core.proofs.Core.least.Goals as goal
-use Rattle.one_core.proofs.Core.least.Goals.{then-self-i, else-self-i}
 
-pub loop-i-init : goal.loop-i-init
-loop-i-init c = (omega arith, omega arith, sym (least-one c.args.self.now.jobs))
-
-pub loop-i-preserved : goal.loop-i-preserved
-loop-i-preserved c = (
-  elim c.if-self-i.branch [ then-self-i w ↦ omega arith | else-self-i w ↦ omega arith ],
-  omega arith,
-  elim c.if-self-i.branch [
-    | then-self-i w ↦ w.best-is ∙ sym (least-taken jobs i (rw best at w.if-self-i.true))
-    | else-self-i w ↦ w.best-is ∙ best ∙ sym (least-left jobs i (rw best at w.if-self-i.false))
-  ],
-)
-  where
-    jobs : List Job
-    jobs = c.args.self.now.jobs
-
-    i : ℕ
-    i = c.loop-i.i
-
-    best : c.loop-i.best ≡ least jobs i
-    best = c.loop-i.invariant.2
-
-pub returns : goal.returns
-returns c =
+pub returns-in-Some : goal.returns-in-Some
+returns-in-Some c =
+    let r = c.in-Some.ensures.ran in
     let k = c.args.self.now in
-    least-found k.jobs k.count c.loop-i.i c.loop-i.best c.loop-i-test.false c.loop-i.invariant.1 (omega arith) c.loop-i.invariant.2
+    whole {A = ℕ × Bor Job} (λ y. (y.0, y.1.now)) _
+    (λ p x q t. taken-turn (λ y. y.0) p.0.1 t.0 x.1.now.deadline t.1 p.1 x q.1 q.0.1 (search (rules, tests, t)) t.3 t.4 t.5)
+    k.jobs k.count r.0 r.1 r.3 r.2 (r.4, (c.in-Some.i, c.in-Some.field-0-1)) (omega arith)
+    (items_from_drains {s = c.enumerate.result} (r.0 ∷ r.1) (r.5.1.0, r.5.1.1, λ _. (r.5.0, r.5.1.2)) (YieldsList-from_enumerate (YieldsList-from_slice (take k.count k.jobs) (cc)) (cc)))
+    (search (rules, tests, r)) r.7
+
+pub returns-in-None : goal.returns-in-None
+unfolding least
+returns-in-None c =
+    let none : c.args.self.now.count ≡ 0 = search (rules, c.in-None.ensures.ran) in
+    sym (ap (least c.args.self.now.jobs) none)
