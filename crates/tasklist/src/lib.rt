@@ -25,7 +25,7 @@ pub fn fill(list: &mut [Task], set: TaskSet) -> Result<usize, NotTasks>
     if n == 0 || list.len() < n {
         return Err(NotTasks);
     }
-    // by `[..n]`, for of what is written through `get_mut` std says the length alone
+    // by `[..n]` (tried: `get_mut(..n)`, of which std says the length alone once it is written through)
     list[..n].copy_from_slice(tasks);
     Ok(n)
 }
