@@ -1,6 +1,5 @@
-// The line reader: a record over the lent line and the place where the next field begins. The core beneath it, `ends::field_end`
-// and `ends::after_field`, takes the line and a number. (Document 01: 'a record over the lent line and the next field's position; the core
-// beneath it takes the line and a number', with few thin functions; `end_from` and `next_from` are the steps that `cut` takes by it.)
+// The line reader: 'a record over the lent line and the next field's position; the core beneath it takes the line and a number' (document
+// 01). The core is `ends::field_end` and `ends::after_field`; `end_from` and `next_from` are the steps that `cut` takes by the reader.
 ghost use Rattle.std.specs.Prelude.{◌≡◌};
 ghost use Rattle.table.specs.Fields.{field_end, after_field};
 
