@@ -80,7 +80,7 @@ impl Outcome {
 }
 
 impl Machine {
-    // The blank record, all fields 0.
+    // The blank record, all fields 0. Written out: of a derived `Default` the proof, place by place, would be longer than this text.
     pub fn blank() -> Machine
         ensures { result ≡ blank }
     {

@@ -15,7 +15,7 @@ use Rattle.one_core.specs.Parts.{most_jobs, job_at, running}
 use Rattle.one_core.specs.Life.{with_job, without_job, with_transaction, unmarked, with_read, with_write, over}
 use Rattle.one_core.specs.Refusal.{number}
 
--- the first condition that holds, by its number; 0 where none does
+-- the first condition that holds, by its number; 0 where none does (the machine's rule has its refusals by it)
 unfoldable pub first : List (Bool × ℕ) → ℕ
 first [] = 0
 first (x ∷ xs) = cond x.0 x.1 (first xs)
