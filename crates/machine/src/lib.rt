@@ -1,6 +1,7 @@
 // The machine's record (document 01: the record that each call but setup takes and all hand back), what a call hands back, and the
 // eight calls. Each promise is an equation with the rule (specs/Rule.antt) for the answer,
 // the whole record and every word of both tables, for every record, sound or not, and every table length.
+// The two tables are lent to a call one by one (document 01), so they are two parameters here and in all that calls this crate.
 #![tactic(auto)]
 
 ghost use Rattle.std.specs.Prelude.{◌≡◌, ◌*◌, ◌&&◌, true, [], ◌==◌};

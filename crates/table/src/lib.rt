@@ -20,7 +20,7 @@ pub use heading::order;
 // The most fields that a line may have; what is held past the places of the names.
 pub const MOST_FIELDS: usize = 5;
 
-// A lent line and where its fields begin, and past the last where one more would.
+// A lent line and where its fields begin, and past the last where one more would: an array and a count (no heap).
 #[derive(Clone, Copy)]
 pub struct Fields<'a> {
     pub line: &'a [u8],
