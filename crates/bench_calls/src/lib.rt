@@ -75,6 +75,7 @@ enum Ask {
     Setup,
     One(Act),
     Commit,
+    // of a number that is no call
     Nothing,
 }
 

@@ -53,7 +53,7 @@ enum Verb {
     Finish,
 }
 
-// What stands in a field of a number.
+// What stands in a field of a number. (No Option: `field` answers one already, none where the field is malformed.)
 #[derive(Clone, Copy)]
 enum Field {
     // `-`
