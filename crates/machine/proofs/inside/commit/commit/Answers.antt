@@ -1,13 +1,14 @@
 -- `machine::inside::commit::commit` meets its contract.
-use Rattle.std.proofs.Common.{◌≡◌, ℕ, ◌*◌, ◌<◌, length, sym, ap, ◌∙◌, arith, rules}
+use Rattle.std.proofs.Common.{◌≡◌, ◌*◌, ◌<◌, true, false, None, Some, Ok, Err, length, refl, sym, ◌∙◌, arith, rules}
 use Rattle.std.proofs.lemmas.Result.{err_from_is_err_and}
-use Rattle.one_core.specs.declared.Answer.TheVariants.{Waits}
-use Rattle.machine.specs.Rule.{lent, commit, set_back_told}
+use Rattle.machine.specs.Record.{core_at}
+use Rattle.machine.specs.Rule.{lent}
 use Rattle.machine.proofs.Facts.{core-place}
 use Rattle.machine.proofs.Entries.{part-long}
-use Rattle.machine.proofs.CoreCalls.{core-found, core-lacked}
+use Rattle.machine.proofs.CoreCalls.{core-found, to-settles}
 use Rattle.machine.proofs.CallLaws.{refused-as}
-use Rattle.machine.proofs.CommitLaws.{Ready, ready, row_within, waits-for, waits-for-nobody, commit-no-core, commit-none, commit-told, commit-waits, commit-through, carried-out}
+use Rattle.machine.proofs.CommitLaws.{Ready, ready, row_within, carried-out}
+use Rattle.machine.proofs.CommitCalls.{carried-through, by-commit-at}
 use Rattle.machine.proofs.inside.commit.commit.Goals as goal
 use Rattle.machine.proofs.inside.commit.commit.Goals.{In_ok-c, After-end}
 
@@ -15,19 +16,14 @@ use Rattle.machine.proofs.inside.commit.commit.Goals.{In_ok-c, After-end}
 here : (c : In_ok-c) → c.in_ok-c.c < c.args.m.now.cores
 here c = let p = core-found c.args.core c.args.m.now.cores c.in_ok-c.c c.in_ok-c.ensures in omega (arith, p.0, p.1)
 
-same : (c : In_ok-c) → c.in_ok-c.c ≡ c.args.core
-same c = (core-found c.args.core c.args.m.now.cores c.in_ok-c.c c.in_ok-c.ensures).0
-
 there : (c : In_ok-c) → c.in_ok-c.c < 16
 there c = core-place c.args.m.now c.requires.is_sound c.in_ok-c.c (here c)
 
 pub returns-in_err-c : goal.returns-in_err-c
 returns-in_err-c c =
     let w = lent c.args.m.now c.args.committed.now c.args.pending.now in
-    let f = c.requires in
     let p = err_from_is_err_and c.from_residual.result c.from_residual.ensures.1 in
-    let lacked = core-lacked c.args.core c.args.m.now.cores _ c.in_err-c.ensures in
-    rw p.1 (refused-as w _ _ (p.2 ∙ lacked.0) ∙ commit-no-core w c.args.core f.is_sound f.committed_long f.pending_long lacked.1)
+    rw p.1 (by-commit-at w c.requires (search rules) c.args.core (Err _) None _ c.in_err-c.ensures refl (refused-as w _ _ p.2))
 
 pub bounds-m-c : goal.bounds-m-c
 bounds-m-c c = there (goal.at.bounds-m-c c).In_ok-c
