@@ -1,7 +1,6 @@
 -- What a commit gives where it finds its core, by what stands there and who is first ahead, is what the rule gives.
-use Rattle.std.proofs.Common.{◌≡◌, ℕ, ◌<◌, Bool, true, false, cond, ltb, List, Option, None, Some, Result, Ok, Err, length, sym, refl, ap, ◌∙◌, subst, arith, ltb-false, ltb-true}
-use Rattle.one_core.specs.declared.Core.{Core}
-use Rattle.one_core.specs.declared.Answer.TheVariants.{Waits, Committed, SetBack, Refused}
+use Rattle.std.proofs.Common.{◌≡◌, ℕ, ◌<◌, Bool, true, false, cond, ltb, Option, None, Some, Result, Ok, Err, length, sym, refl, ap, ◌∙◌, subst, arith, ltb-false, ltb-true}
+use Rattle.one_core.specs.declared.Answer.TheVariants.{Waits, SetBack, Refused}
 use Rattle.one_core.specs.declared.refusal.Refusal.{Refusal}
 use Rattle.one_core.specs.declared.refusal.Refusal.TheVariants.{NoSuchCore}
 use Rattle.one_core.specs.Life.{unmarked}

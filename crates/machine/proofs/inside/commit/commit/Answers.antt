@@ -1,5 +1,5 @@
 -- `machine::inside::commit::commit` meets its contract.
-use Rattle.std.proofs.Common.{◌≡◌, ◌*◌, ◌<◌, Bool, true, false, None, Some, Ok, Err, length, refl, sym, ◌∙◌, arith, rules}
+use Rattle.std.proofs.Common.{◌≡◌, ◌*◌, ◌<◌, true, false, None, Some, Ok, Err, length, refl, sym, ◌∙◌, arith, rules}
 use Rattle.std.proofs.lemmas.Result.{err_from_is_err_and}
 use Rattle.one_core.specs.Life.{is_read_only}
 use Rattle.machine.specs.Record.{core_at}
