@@ -13,8 +13,9 @@ use Rattle.one_core.specs.declared.refusal.Refusal.TheVariants.{NoSuchCore, NoSu
 use Rattle.one_core.specs.Parts.{no_core}
 use Rattle.one_core.specs.Refusal.{number}
 use Rattle.one_core.specs.Calls as Core
-use Rattle.one_core.specs.Calls.{first, object_of, taken, answered_on, unless_on, release_on, begin_on, read_on, write_on, give_up_on, finish_on}
+use Rattle.one_core.specs.Calls.{first, object_of, Settles, taken, answered_on, unless_on, release_on, begin_on, read_on, write_on, give_up_on, finish_on}
 use Rattle.one_core.proofs.CallLaws.{skips, hits, numbered, by-number}
+use Rattle.one_core.proofs.Tidy.{tidy-settles}
 use Rattle.machine.specs.declared.Machine.{Machine}
 use Rattle.machine.specs.declared.Outcome.{Outcome}
 use Rattle.machine.specs.declared.inside.calls.Place.{Place}
@@ -232,6 +233,13 @@ module _ (w : World) where
       let p = place-found c (object_of a) m.cores m.objects at e in
       ap (λ (x : Place). given w x (acted w a x)) p.0 ∙ found-given f a c p.1 p.2
 
+  -- the same, of what code found, saw and got
+  pub by-core-at : SoundWorld w → (a : Act) (c d : ℕ) (at : Place) (s : Seen) (r : Acted) → d ≡ object_of a → Ok at ≡ found c d m.cores m.objects
+      → s ≡ seen at → r ≡ answered_on (core_at m at.core) s (taken a (core_at m at.core) s) → given w at r ≡ rule w (call_of a c)
+  by-core-at f a c d at s r p q e h =
+      ap (given w at) (h ∙ ap (λ (x : Seen). answered_on (core_at m at.core) x (taken a (core_at m at.core) x)) e)
+      ∙ by-core f a c at (q ∙ ap (λ (n : ℕ). found c n m.cores m.objects) p)
+
   pub by-refusal : SoundWorld w → (a : Act) (c : ℕ) (r : Refusal) → Err r ≡ found c (object_of a) m.cores m.objects
       → ◌≡◌ {A = Rule.Result} (record { answer = Refused (number r); world = w }) (rule w (call_of a c))
   by-refusal f a c r = go (ltb c m.cores) refl (ltb (object_of a) m.objects) refl
@@ -269,6 +277,10 @@ module _ (m : Machine) (s : sound m ≡ true) (c d : ℕ) (at : Place) (e : Ok a
 
   pub to-one_open : (core_at m at.core).active ≡ true → m.give_ups < m.tickets
   to-one_open on = omega (arith, one-open m s at.core to-core on)
+
+-- where the transaction of a core of the machine has written, it is in progress and not marked
+pub to-settles : (m : Machine) → sound m ≡ true → (c : ℕ) → c < m.cores → Settles (core_at m c)
+to-settles m s c h = tidy-settles m.objects (core_at m c) ((stands m s).tidy c (core-place m s c h))
 
 -- tables of zeros are of the right lengths
 pub zeroed-fine : (m : Machine) → sound m ≡ true → SoundWorld (zeroed m)

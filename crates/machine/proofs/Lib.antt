@@ -9,6 +9,7 @@ mod Facts
 pub mod Front
 mod SetLoop
 pub mod CommitLaws
+pub mod CommitCalls
 mod SoundLaws
 pub mod BlankLaws
 pub mod Refusals

@@ -1,21 +1,23 @@
 -- A call concerns one core of the record: where it finds it, what it sees beside it, and what it leaves there; and a commit.
-use Rattle.std.specs.Prelude.{ℕ, ◌*◌, Bool, true, false, cond, not, ◌&&◌, List, [], ◌∷◌, Option, None, Some, Result, Ok, Err, get_or, replicate, nat_lt, slice_index, slice_index_or, slice_set}
+use Rattle.std.specs.Prelude.{ℕ, ◌+◌, ◌*◌, Bool, true, false, cond, not, ◌&&◌, List, [], ◌∷◌, Option, None, Some, Result, Ok, Err, get_or, replicate, nat_lt, slice_index, slice_index_or, slice_set}
 use Rattle.objset.specs.Objset.{some}
 use Rattle.one_core.specs.declared.Core.{Core}
+use Rattle.one_core.specs.declared.Answer.TheVariants.{Waits, Committed, SetBack, Refused}
 use Rattle.one_core.specs.declared.calls.Act.{Act}
 use Rattle.one_core.specs.declared.calls.Seen.{Seen}
 use Rattle.one_core.specs.declared.calls.Acted.{Acted}
 use Rattle.one_core.specs.declared.refusal.Refusal.{Refusal}
-use Rattle.one_core.specs.declared.refusal.Refusal.TheVariants.{Unsound, WrongTable, NoSuchCore, NoSuchObject}
+use Rattle.one_core.specs.declared.refusal.Refusal.TheVariants.{Unsound, WrongTable, NoSuchCore, NoSuchObject, NoneInProgress}
 use Rattle.one_core.specs.Parts.{most_cores, no_core}
-use Rattle.one_core.specs.Life.{is_read_only, holds_back, struck_by}
+use Rattle.one_core.specs.Life.{unmarked, over, is_read_only, holds_back, struck_by}
+use Rattle.one_core.specs.Refusal.{number}
 use Rattle.one_core.specs.Calls.{unless_on, taken, answered_on}
 use Rattle.machine.specs.declared.Machine.{Machine}
 use Rattle.machine.specs.declared.Outcome.{Outcome}
 use Rattle.machine.specs.declared.inside.calls.Place.{Place}
-use Rattle.machine.specs.Record.{core_at}
+use Rattle.machine.specs.Record.{core_at, put_core}
 use Rattle.machine.specs.Rule as Rule
-use Rattle.machine.specs.Rule.{World, lent, unsound, wrong_tables, least_by, Call, Release, Begin, Read, Write, GiveUp, Finish}
+use Rattle.machine.specs.Rule.{World, lent, with_machine, unsound, wrong_tables, least_by, changed, moved, Call, Release, Begin, Read, Write, GiveUp, Finish}
 
 -- ---- a call that concerns one core
 
@@ -95,3 +97,37 @@ first_holding cores k =
 unfoldable pub struck_all : ℕ → List Core → List Core
 struck_all ws [] = []
 struck_all ws (k ∷ ks) = struck_by ws k ∷ struck_all ws ks
+
+-- the transaction of core c is over and its write set is carried out
+abbrev pub carried_out : World → ℕ → Rule.Result
+carried_out w c =
+    let k : Core = core_at w.machine c in
+    record {
+      answer = Committed k.aborts;
+      world =
+          lent
+          (record {
+            cores = w.machine.cores;
+            objects = w.machine.objects;
+            tickets = w.machine.tickets;
+            commits = w.machine.commits + 1;
+            give_ups = w.machine.give_ups;
+            core = struck_all k.writes (slice_set w.machine.core c (over k));
+            versions = changed k.writes (λ d v. v + 1) 0 w.machine.versions;
+          })
+          (changed k.writes (moved w c) 0 w.committed) w.pending;
+    }
+
+-- it waits for the core that is first ahead of it; where none is, it is carried out
+abbrev pub waits_or : World → ℕ → Option ℕ → Rule.Result
+waits_or w c (Some e) = record { answer = Waits e; world = w }
+waits_or w c None = carried_out w c
+
+-- what a commit gives, of where it found its core and who is first ahead there: refused, told that it was set back, waiting, or through
+abbrev pub settled : World → Result ℕ Refusal → Option ℕ → Rule.Result
+settled w (Ok c) ahead =
+    let k : Core = core_at w.machine c in
+    cond k.active
+    (cond k.zombie (record { answer = SetBack; world = with_machine w (put_core w.machine c (unmarked k)) }) (waits_or w c ahead))
+    (record { answer = Refused (number NoneInProgress); world = w })
+settled w (Err r) ahead = record { answer = Refused (number r); world = w }

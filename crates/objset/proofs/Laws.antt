@@ -5,7 +5,7 @@ use mathlib.Core.Bool.{Bool, true, false, cond, not, ◌&&◌, ◌||◌, or-true
 use Prim.Native.Nat.{ℕ, zero, suc, ◌^◌, ◌≤◌, ◌<◌}
 use native.Mathlib.Omega.{arith}
 use lib.Dec.{eqb, ltb}
-use borrow.Author.Tests.{ltb-true, ltb-false, lt-ltb, eqb-true, eqb-false, ne_eqb, not-false}
+use borrow.Author.Tests.{ltb-true, ltb-false, lt-ltb, eqb-true, eqb-false, ne_eqb, not-true, not-false}
 use Rattle.std.specs.Prelude.{Option, None, Some}
 use Rattle.std.specs.Option.{is_some, option_map, unwrap_or}
 use Rattle.objset.specs.Objset.{has, collect, some, each, first_passing, none, is_empty, first_object, added, removed, joined, meeting, below}
@@ -290,6 +290,20 @@ first-none s e = go (first_object s) refl
     go : (r : Option ℕ) → first_object s ≡ r → r ≡ None
     go None p = refl
     go (Some d) p = absurd (true≢false (sym e ∙ one-filled s d (first-within 64 (has s) d p) (first_member s d p)))
+
+-- once it is taken out, the first object that is left is a later one
+pub first_next : (s d e : ℕ) → s < 2 ^ 64 → first_object s ≡ Some d → first_object (removed s d) ≡ Some e → d < e
+first_next s d e hs p q = later (ltb d e) refl
+  where
+    -- an object that is left: of s, and another than d
+    here : (has s e && not (eqb e d)) ≡ true
+    here = sym (has-removed s d e hs) ∙ first_member (removed s d) e q
+
+    later : (b : Bool) → ltb d e ≡ b → d < e
+    later true t = ltb-true d e t
+    later false t =
+        let other = eqb-false e d (not-true (eqb e d) (both_right (has s e) (not (eqb e d)) here)) in
+        absurd (true≢false (sym (both_left (has s e) (not (eqb e d)) here) ∙ first-least s d p e (omega (arith, other, ltb-false d e t))))
 
 -- ---- meeting
 

@@ -1,6 +1,6 @@
 -- The rules that a core keeps by itself as plain statements: `Tidy objects k` holds if and only if the test `tidy objects k` passes.
-use Rattle.std.specs.Prelude.{◌≡◌, ℕ, ◌<◌, ◌≤◌, true, false, not, ◌&&◌, eqb, ltb, leb}
-use mathlib.Core.Path.{sym, ap, ◌∙◌}
+use Rattle.std.specs.Prelude.{◌≡◌, ℕ, ◌<◌, ◌≤◌, Bool, true, false, not, ◌&&◌, eqb, ltb, leb}
+use mathlib.Core.Path.{refl, sym, ap, ◌∙◌}
 use mathlib.Core.Bool.{true≢false}
 use native.Mathlib.Omega.{arith}
 use borrow.Author.Tests.{ltb-true, leb-true, eqb-true, lt-ltb, le-leb, not-true}
@@ -9,6 +9,8 @@ use Rattle.objset.proofs.Laws.{each-one, one_each, one-filled}
 use Rattle.one_core.specs.declared.Core.{Core}
 use Rattle.one_core.specs.declared.Job.{Job}
 use Rattle.one_core.specs.Parts.{no_job, job_at}
+use Rattle.one_core.specs.Life.{is_read_only}
+use Rattle.one_core.specs.Calls.{Settles}
 use Rattle.one_core.specs.Tidy.{◌⇒◌, sets_within_on, owner_listed_on, empty_sets, clear, idle_clear_on, zombie_empty_on, few_jobs_on, zero_job, unused_jobs_on, owner_first_on, unused, tidy, blank_on}
 use Rattle.one_core.proofs.TestLaws.{same_test, if-true, true-if, both}
 
@@ -208,3 +210,23 @@ blank-tidy objects k = same_test (blank_on k) (tidy objects k && unused k) to fr
         one_each 8 _
         (λ p l. if-true (leb k.count p) (zero_job (job_at k p)) (each-one 8 _ j.1 p l) (le-leb k.count p (omega (arith, none)))) in
         rw (off, c.no-mark, none, c.no-owner, c.no-ticket, c.no-aborts, jobs, c.no_reads, c.no_writes)
+
+-- ---- where it has written, it is in progress and not marked
+
+pub tidy-settles : (objects : ℕ) (k : Core) → Tidy objects k → Settles k
+tidy-settles objects k t =
+    record {
+      written_active = λ wrote. go k.active refl (λ off. unwritten (t.idle-clear off).no_writes wrote);
+      written_unmarked = λ wrote. mark k.zombie refl (λ on. unwritten (t.zombie-empty on).1 wrote);
+    }
+  where
+    unwritten : is_empty k.writes ≡ true → is_read_only k ≡ false → ⊥
+    unwritten none wrote = true≢false (sym none ∙ wrote)
+
+    go : (a : Bool) → k.active ≡ a → (k.active ≡ false → ⊥) → k.active ≡ true
+    go true on h = on
+    go false off h = absurd (h off)
+
+    mark : (z : Bool) → k.zombie ≡ z → (k.zombie ≡ true → ⊥) → k.zombie ≡ false
+    mark true on h = absurd (h on)
+    mark false off h = off

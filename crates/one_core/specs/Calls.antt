@@ -1,5 +1,5 @@
 -- What a call gives on its core (document 01), once the core and the card are found: refusals first, in the order of their numbers.
-use Rattle.std.specs.Prelude.{◌≡◌, ℕ, ◌+◌, ◌<◌, ◌≤◌, Bool, true, cond, not, List, [], ◌∷◌, Result, Ok, Err, ◌==◌, nat_le}
+use Rattle.std.specs.Prelude.{◌≡◌, ℕ, ◌+◌, ◌<◌, ◌≤◌, Bool, true, false, cond, not, List, [], ◌∷◌, Result, Ok, Err, ◌==◌, nat_le}
 use Rattle.objset.specs.Objset.{has}
 use Rattle.one_core.specs.declared.Core.{Core}
 use Rattle.one_core.specs.declared.Job.{Job}
@@ -12,7 +12,7 @@ use Rattle.one_core.specs.declared.calls.Acted.{Acted}
 use Rattle.one_core.specs.declared.refusal.Refusal.{Refusal}
 use Rattle.one_core.specs.declared.refusal.Refusal.TheVariants.{ListFull, NoJob, InProgress, NoneInProgress, TicketsSpent}
 use Rattle.one_core.specs.Parts.{most_jobs, job_at, running}
-use Rattle.one_core.specs.Life.{with_job, without_job, with_transaction, unmarked, with_read, with_write, over}
+use Rattle.one_core.specs.Life.{with_job, without_job, with_transaction, unmarked, with_read, with_write, over, is_read_only}
 use Rattle.one_core.specs.Refusal.{number}
 
 -- the first condition that holds, by its number; 0 where none does (the machine's rule has its refusals by it)
@@ -136,3 +136,8 @@ taken Finish k s = finish_on k s
 pub record Fits (k : Core) (s : Seen) : Type 0 where
   pub few_jobs : k.count ≤ most_jobs
   pub one_more : k.active ≡ true → s.give_ups < 4294967295
+
+-- what a sound record gives of its core: where a transaction has written, it is in progress and not marked
+pub record Settles (k : Core) : Type 0 where
+  pub written_active : is_read_only k ≡ false → k.active ≡ true
+  pub written_unmarked : is_read_only k ≡ false → k.zombie ≡ false

@@ -22,23 +22,23 @@ pub struct Place {
     pub object: usize,
 }
 
-// The place of this core, where the machine has it.
-pub fn find_core(m: &Machine, core: u32) -> Result<usize, Refusal>
-    ensures { result ≡ found_core core m.now.cores }
+// The place of this core, where a machine of that many cores has it.
+pub fn find_core(core: u32, cores: u8) -> Result<usize, Refusal>
+    ensures { result ≡ found_core core cores }
 {
-    if core < m.cores as u32 {
+    if core < cores as u32 {
         Ok(core as usize)
     } else {
         Err(Refusal::NoSuchCore)
     }
 }
 
-// The places of this core and of this object, where the machine has both.
-pub fn find(m: &Machine, core: u32, object: u32) -> Result<Place, Refusal>
-    ensures { result ≡ found core object m.now.cores m.now.objects }
+// The places of this core and of this object, where a machine of that many cores and objects has both.
+pub fn find(core: u32, object: u32, cores: u8, objects: u8) -> Result<Place, Refusal>
+    ensures { result ≡ found core object cores objects }
 {
-    let core = find_core(m, core)?;
-    if object < m.objects as u32 {
+    let core = find_core(core, cores)?;
+    if object < objects as u32 {
         Ok(Place {
             core,
             object: object as usize,
@@ -84,7 +84,7 @@ pub fn alone(m: &mut Machine, core: u32, act: Act) -> Result<Answer, Refusal>
     requires { sound m.old ≡ true }
     ensures { record { answer = answer_of result; machine = m.new } ≡ handed (rule (zeroed m.old) (call_of act core)) }
 {
-    let at = find(m, core, act.object())?;
+    let at = find(core, act.object(), m.cores, m.objects)?;
     let mut word = 0;
     act_at(m, at, act, 0, &mut word)
 }
@@ -100,7 +100,7 @@ pub fn access(
     requires { SoundWorld (lent m.old committed.now pending.old) }
     ensures { left (record { answer = answer_of result; machine = m.new }) committed.now pending.new ≡ rule (lent m.old committed.now pending.old) (call_of act core) }
 {
-    let at = find(m, core, act.object())?;
+    let at = find(core, act.object(), m.cores, m.objects)?;
     let slot = at.core * m.objects as usize + at.object;
     act_at(m, at, act, committed[at.object], &mut pending[slot])
 }

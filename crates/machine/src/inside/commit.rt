@@ -70,7 +70,7 @@ fn strike(cores: &mut [Core; CORES], ws: u64)
 
 // Commits the transaction of a core. A marked transaction is told that it was set back, and loses its mark and nothing more. One that
 // conflicts with a smaller ticket waits, unless it is read-only. Any other goes through. A refusal or a wait leaves the record and both
-// tables as they are.
+// tables as they are. One that has written is in progress and not marked (`Settles`), so neither is looked at.
 pub fn commit(
     m: &mut Machine,
     core: u32,
@@ -80,14 +80,17 @@ pub fn commit(
     requires { SoundWorld (lent m.old committed.old pending.now) }
     ensures { left (record { answer = answer_of result; machine = m.new }) committed.new pending.now ≡ commit_rule (lent m.old committed.old pending.now) core }
 {
-    let c = find_core(m, core)?;
+    let c = find_core(core, m.cores)?;
     let k = m.core[c];
-    if !k.active {
-        return Err(Refusal::NoneInProgress);
-    }
-    if k.zombie {
-        m.core[c].tell();
-        return Ok(Answer::SetBack);
+    let read_only = k.is_read_only();
+    if read_only {
+        if !k.active {
+            return Err(Refusal::NoneInProgress);
+        }
+        if k.zombie {
+            m.core[c].tell();
+            return Ok(Answer::SetBack);
+        }
     }
     if let Some(e) = ahead_of(&m.core, &k) {
         return Ok(Answer::Waits(e));
