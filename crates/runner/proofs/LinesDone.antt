@@ -1,5 +1,5 @@
--- The runner's loop over a chunk, where a line ends: what it asks for is carried out, and its answer is put where the output is lent. For
--- readers: no proof here cites these.
+-- For the reader: the loop over a chunk, where a line ends, in one step (the code takes it in two, `line_listed` and `line_ended`): of the line
+-- of names nothing is listed; what any other asks for is carried out, and its answer is put where the output is lent.
 use Rattle.std.proofs.Common.{◌≡◌, ℕ, ◌+◌, ◌-◌, ◌<◌, ◌≤◌, Bool, true, List, ◌∷◌, ◌++◌, length, get_or, take, drop, sym, ap, ◌∙◌, arith}
 use Rattle.machine.specs.declared.Machine.{Machine}
 use Rattle.machine.specs.Rule.{World}
