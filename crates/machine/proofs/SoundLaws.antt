@@ -57,6 +57,10 @@ versions-bounded m = gather 64 _ _ _ refl
 
 -- ---- transactions in progress
 
+-- the ticket t differs from the one in progress on core e
+abbrev pub differs_from : Machine → ℕ → ℕ → Bool
+differs_from m t e = (core_at m e).active ⇒ not (eqb t (core_at m e).ticket)
+
 -- what cores_kept tests of the transaction on core c
 abbrev pub turn_at : Machine → ℕ → Bool
 turn_at m c = each c (differ_at m c) && given_at m c && aborts_at m c
@@ -97,26 +101,6 @@ kept-all m n c p q e a =
     let s : c ≡ 16 = omega arith in
     ap₂ (λ (b : Bool) (x : ℕ). b && eqb m.tickets (m.commits + m.give_ups + x))
     (each_all 16 c (kept_at m) p q a ∙ cores-kept m) (e ∙ ap (λ (x : ℕ). tally x (active_at m)) s)
-
--- a test of the cores before c
-pub before-each : (f : Core → Bool) (cores : List Core) (c : ℕ) → c ≤ length cores → list_all f (take c cores) ≡ each c (λ e. f (get_or cores e no_core))
-before-each f cores c l = same_test _ _ to from
-  where
-    long : length (take c cores) ≡ c
-    long = length-take-le c cores l
-
-    to : list_all f (take c cores) ≡ true → each c (λ e. f (get_or cores e no_core)) ≡ true
-    to h =
-        one_each c _
-        (λ e b.
-        ap f (sym (get_or-take c cores e no_core b))
-        ∙ All-get_or (λ k. f k ≡ true) (take c cores) e no_core (omega (arith, long)) (AllPass-from_list_all f (take c cores) h))
-
-    from : each c (λ e. f (get_or cores e no_core)) ≡ true → list_all f (take c cores) ≡ true
-    from h =
-        list_all-from_AllPass f (take c cores)
-        (All-from_get_or (λ k. f k ≡ true) (take c cores) no_core
-        (λ e b. let here : e < c = omega (arith, long) in ap f (get_or-take c cores e no_core here) ∙ each-one c _ h e here))
 
 pub ahead-all : (m : Machine) (t n b c : ℕ) → 16 ≤ c → c ≤ 16 → n ≡ b + tally c (smaller_at m t) → n ≡ b + smaller_tickets m t
 unfolding smaller_tickets

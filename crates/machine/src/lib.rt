@@ -210,9 +210,7 @@ impl Machine {
     fn unlent(&mut self, core: u32, act: Act) -> Result<Answer, Refusal>
         ensures { record { answer = answer_of result; machine = self.new } ≡ handed (rule (zeroed self.old) (call_of act core)) }
     {
-        if !is_sound(self) {
-            return Err(Refusal::Unsound);
-        }
+        self.standing()?;
         alone(self, core, act)
     }
 
@@ -249,12 +247,21 @@ impl Machine {
     fn tested(&self, committed: &[u32], pending: &[u32]) -> Result<(), Refusal>
         ensures { result ≡ checked (lent self.now committed.now pending.now) }
     {
-        if !is_sound(self) {
-            return Err(Refusal::Unsound);
-        }
+        self.standing()?;
         if !tables_fit(self.cores, self.objects, committed.len(), pending.len()) {
             return Err(Refusal::WrongTable);
         }
         Ok(())
+    }
+
+    // Whether the record is sound, `Unsound` if not.
+    fn standing(&self) -> Result<(), Refusal>
+        ensures { result ≡ (if sound self.now then Ok tt else Err Unsound) }
+    {
+        if is_sound(self) {
+            Ok(())
+        } else {
+            Err(Refusal::Unsound)
+        }
     }
 }
