@@ -9,7 +9,7 @@ use Rattle.machine.specs.Record.{core_at, put_core}
 use Rattle.machine.specs.Inside.{SoundWorld}
 use Rattle.machine.specs.Rule as Rule
 use Rattle.machine.specs.Rule.{World, lent, with_machine, changed, moved, set_back_told, through, commit}
-use Rattle.machine.specs.OneCore.{found_core, first_holding, carried_out, waits_or, settled}
+use Rattle.machine.specs.OneCore.{found_core, first_holding, carried_out, waits_or, settled_at}
 use Rattle.machine.proofs.Facts.{core-place}
 use Rattle.machine.proofs.CoreLists.{strikes-cleared}
 use Rattle.machine.proofs.CommitLaws.{waits-for, waits-for-nobody, commit-no-core, commit-none, commit-told, commit-waits, commit-through}
@@ -45,15 +45,15 @@ module _ (w : World) where
         ∙ commit-through w c f.is_sound f.committed_long f.pending_long h on mark (waits-for-nobody m c first)
 
     -- what the commit gives, wherever it finds its core
-    pub by-commit : let to : Result ℕ Refusal = found_core c m.cores in settled w to (ahead_at to) ≡ commit w c
+    pub by-commit : let to : Result ℕ Refusal = found_core c m.cores in settled_at w to (ahead_at to) ≡ commit w c
     by-commit = go (ltb c m.cores) refl
       where
-        go : (p : Bool) → ltb c m.cores ≡ p → let to : Result ℕ Refusal = cond p (Ok c) (Err NoSuchCore) in settled w to (ahead_at to) ≡ commit w c
+        go : (p : Bool) → ltb c m.cores ≡ p → let to : Result ℕ Refusal = cond p (Ok c) (Err NoSuchCore) in settled_at w to (ahead_at to) ≡ commit w c
         go true h = on-core (ltb-true _ _ h) (core_at m c).active (core_at m c).zombie (ahead_at (Ok c)) refl refl refl
         go false h = commit-no-core w c f.is_sound f.committed_long f.pending_long (ltb-false _ _ h)
 
     -- the same, of what code found and got
     pub by-commit-at : (to : Result ℕ Refusal) (ahead : Option ℕ) (r : Rule.Result) → to ≡ found_core c m.cores
-        → ahead ≡ ahead_at to → r ≡ settled w to ahead → r ≡ commit w c
+        → ahead ≡ ahead_at to → r ≡ settled_at w to ahead → r ≡ commit w c
     by-commit-at to ahead r p q h =
-        h ∙ ap (settled w to) q ∙ subst (λ (x : Result ℕ Refusal). settled w x (ahead_at x) ≡ commit w c) (sym p) by-commit
+        h ∙ ap (settled_at w to) q ∙ subst (λ (x : Result ℕ Refusal). settled_at w x (ahead_at x) ≡ commit w c) (sym p) by-commit

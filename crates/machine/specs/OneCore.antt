@@ -124,10 +124,10 @@ waits_or w c (Some e) = record { answer = Waits e; world = w }
 waits_or w c None = carried_out w c
 
 -- what a commit gives, of where it found its core and who is first ahead there: refused, told that it was set back, waiting, or through
-abbrev pub settled : World → Result ℕ Refusal → Option ℕ → Rule.Result
-settled w (Ok c) ahead =
+abbrev pub settled_at : World → Result ℕ Refusal → Option ℕ → Rule.Result
+settled_at w (Ok c) ahead =
     let k : Core = core_at w.machine c in
     cond k.active
     (cond k.zombie (record { answer = SetBack; world = with_machine w (put_core w.machine c (unmarked k)) }) (waits_or w c ahead))
     (record { answer = Refused (number NoneInProgress); world = w })
-settled w (Err r) ahead = record { answer = Refused (number r); world = w }
+settled_at w (Err r) ahead = record { answer = Refused (number r); world = w }
