@@ -1,15 +1,9 @@
 -- The laws behind the soundness test: the rules that one core keeps, and the rules gathered core by core.
-use Rattle.std.proofs.Common.{◌≡◌, ℕ, ◌+◌, ◌<◌, ◌≤◌, Bool, true, false, not, ◌&&◌, eqb, ltb, List, length, get_or, take, sym, refl, ap, ◌∙◌, ap₂, add-one, arith, le-leb, length-take-le}
-use Rattle.std.specs.List.{list_all}
-use Rattle.std.proofs.lemmas.List.{get_or-take}
-use Rattle.std.proofs.lemmas.List.Elements.{All-get_or, All-from_get_or}
-use Rattle.std.proofs.lemmas.List.Sums.{AllPass-from_list_all, list_all-from_AllPass}
+use Rattle.std.proofs.Common.{◌≡◌, ℕ, ◌+◌, ◌<◌, ◌≤◌, Bool, true, false, not, ◌&&◌, eqb, ltb, sym, refl, ap, ◌∙◌, ap₂, add-one, arith, le-leb}
 use Rattle.std.proofs.Math.Bool.{and_comm}
 use borrow.Author.Tests.{lt-leb}
 use Rattle.objset.specs.Objset.{each}
-use Rattle.objset.proofs.Laws.{one_each, each-one}
-use Rattle.one_core.specs.declared.Core.{Core}
-use Rattle.one_core.specs.Parts.{no_core}
+use Rattle.objset.proofs.Laws.{one_each}
 use Rattle.machine.specs.declared.Machine.{Machine}
 use Rattle.machine.specs.Record.{core_at, active_at, tally}
 use Rattle.one_core.specs.Tidy.{◌⇒◌, tidy, blank_on}

@@ -8,7 +8,7 @@ ghost use Rattle.std.specs.Prelude.{◌≡◌, ◌*◌, ◌&&◌, true, [], ◌=
 ghost use Rattle.machine.specs.Sound.{sound, is_blank};
 ghost use Rattle.machine.specs.Rule as Rule;
 ghost use Rattle.machine.specs.Rule.{lent, left, rule};
-ghost use Rattle.machine.specs.OneCore.{call_of, lends, zeroed, handed, checked};
+ghost use Rattle.machine.specs.OneCore.{call_of, lends, zeroed, handed, checked, checked_sound};
 ghost use Rattle.machine.specs.Record.{blank, sizes_in_range};
 ghost use Rattle.one_core.specs.declared.Answer.TheVariants.{Ready};
 ghost use Rattle.one_core.specs.Refusal.{answer_of};
@@ -255,8 +255,9 @@ impl Machine {
     }
 
     // Whether the record is sound, `Unsound` if not.
+    #[tactic(auto, unfolding(one_core::specs::Calls::unless_on))]
     fn standing(&self) -> Result<(), Refusal>
-        ensures { result ≡ (if sound self.now then Ok tt else Err Unsound) }
+        ensures { result ≡ checked_sound self.now }
     {
         if is_sound(self) {
             Ok(())
