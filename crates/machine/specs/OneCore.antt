@@ -80,7 +80,11 @@ lends _ = false
 
 -- ---- what the public calls do besides
 
--- an unsound record and wrong tables are refused
+-- an unsound record is refused
+abbrev pub checked_sound : Machine → Result (Unit {0}) Refusal
+checked_sound m = unless_on ((unsound m, Unsound) ∷ []) tt
+
+-- and so are wrong tables
 abbrev pub checked : World → Result (Unit {0}) Refusal
 checked w = unless_on ((unsound w.machine, Unsound) ∷ (wrong_tables w, WrongTable) ∷ []) tt
 

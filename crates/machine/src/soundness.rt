@@ -15,7 +15,9 @@ fn versions_bounded(m: &Machine) -> bool
     let mut kept = true;
     for (d, version) in m.versions.iter().enumerate() {
         let most = if d < objects { m.commits } else { 0 };
-        kept &= *version <= most;
+        if most < *version {
+            kept = false;
+        }
     }
     kept
 }
@@ -28,14 +30,16 @@ fn turn_kept(m: &Machine, c: usize, ticket: u32, aborts: u8) -> bool
     ensures { result ≡ turn_kept m.now c ticket aborts }
 {
     let mut smaller = aborts as usize;
-    for k in &m.core {
-        if k.active && k.ticket < ticket {
-            smaller += 1;
+    for (e, k) in m.core.iter().enumerate() {
+        if k.active {
+            if k.ticket < ticket {
+                smaller += 1;
+            } else if k.ticket == ticket && e < c {
+                return false;
+            }
         }
     }
-    m.core[..c].iter().all(|k| !k.active || ticket != k.ticket)
-        && ticket < m.tickets
-        && smaller < m.cores as usize
+    ticket < m.tickets && smaller < m.cores as usize
 }
 
 // Whether each core is tidy and its transaction keeps those rules, each core that the machine lacks is blank, and the count of tickets
