@@ -142,7 +142,7 @@ carried-out w c l =
     ap₂
     (λ (cores : List Core) (committed : List ℕ).
     record {
-      answer = Committed k.aborts;
+      answer = Committed (core_at w.machine c).aborts;
       world =
           lent
           (record { cores = m.cores; objects = m.objects; tickets = m.tickets; commits = m.commits + 1; give_ups = m.give_ups; core = cores; versions = changed k.writes (λ d v. v + 1) 0 m.versions })
