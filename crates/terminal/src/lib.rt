@@ -1,5 +1,5 @@
-// What the programs share: why a run ends early, the words for it, whether there is an argument, and input that is read to its end.
-// `main` stands in each program: it is the program's name, its usage and its run, and nothing more.
+// What the programs share: why a run ends early, the words for it, and whether there is an argument; and, for the program of sheets, input that
+// is read to its end. `main` stands in each program: it is the program's name, its usage and its run, and nothing more.
 #![tactic(auto)]
 
 ghost use Rattle.std.specs.Prelude.{◌<◌, ◌≤◌, length, take, IfOk};
