@@ -50,9 +50,10 @@ fn play(
         show(rt, out.answer)?;
         return Ok(out.machine);
     }
-    match row {
-        Row::Heading(name) => println!(rt; "{name}")?,
-        _ => show_cards(rt, committed)?,
+    if let Row::Heading(name) = row {
+        println!(rt; "{name}")?;
+    } else {
+        show_cards(rt, committed)?;
     }
     Ok(machine)
 }
