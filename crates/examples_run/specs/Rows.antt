@@ -10,9 +10,9 @@ abbrev pub value_of : ℕ → Option ℕ
 value_of n = cond (nat_le n 4294967295) (Some n) None
 
 -- a write of that value; of none it is no call, which is refused 11
-abbrev pub wrote : World → ℕ → ℕ → Option ℕ → Result
-wrote w c d (Some v) = rule w (Write c d v)
-wrote w c d None = record { answer = Refused 11; world = w }
+abbrev pub write_of : World → ℕ → ℕ → Option ℕ → Result
+write_of w c d (Some v) = rule w (Write c d v)
+write_of w c d None = record { answer = Refused 11; world = w }
 
 -- the row's call, by its rule; a heading and the cards are no call
 abbrev pub given : World → Row → Option Result
@@ -20,7 +20,7 @@ given w (Row.Setup n d) = Some (setup n d w.committed w.pending)
 given w (Row.Release c j t) = Some (rule w (Release c j t))
 given w (Row.Begin c) = Some (rule w (Begin c))
 given w (Row.Read c d) = Some (rule w (Read c d))
-given w (Row.Write c d n) = Some (wrote w c d (value_of n))
+given w (Row.Write c d n) = Some (write_of w c d (value_of n))
 given w (Row.Commit c) = Some (rule w (Commit c))
 given w (Row.GiveUp c) = Some (rule w (GiveUp c))
 given w (Row.Finish c) = Some (rule w (Finish c))
