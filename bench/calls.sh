@@ -1,7 +1,7 @@
 #!/usr/bin/env bash
 # Instructions per call, counted by callgrind: prints the tables of docs/BENCHMARKS.md. The same numbers on every run. "inside" is a call
-# in place: the loop over the list holds the record, takes the call's core out, makes the call on it and puts it back. "no call" is what
-# the loop itself costs, for a number that is no call.
+# in place: the loop over the list holds the record and makes the call on it where it stands, copying none. "no call" is what the loop
+# itself costs, for a number that is no call.
 set -eu
 cd "$(dirname "$0")/.."
 tests/tool.sh rt cargo gcc valgrind

@@ -4,9 +4,13 @@
 
 mod rows;
 
-use machine::Machine;
+ghost use Rattle.std.specs.Prelude.{◌≡◌};
+ghost use Rattle.machine.specs.Rule.{lent};
+ghost use Rattle.examples_run.specs.Rows.{given, left_of};
+
+use machine::{Machine, Outcome};
 use one_core::{Answer, Refusal};
-use rows::{ROWS, Row};
+use rows::{ROWS, Row, value_of};
 use std::io;
 
 // How many words the tables of the largest machine have.
@@ -42,30 +46,41 @@ fn play(
     let committed = &mut committed[..lent];
     let lent = (cores * cards).min(pending.len());
     let pending = &mut pending[..lent];
+    if let Some(out) = make(machine, row, committed, pending) {
+        show(rt, out.answer)?;
+        return Ok(out.machine);
+    }
+    if let Row::Heading(name) = row {
+        println!(rt; "{name}")?;
+    } else {
+        show_cards(rt, committed)?;
+    }
+    Ok(machine)
+}
+
+// Makes the call of a row; a write whose number is above the largest value is no call, and refused. A heading and the cards are none.
+#[tactic(auto, unfolding(machine::specs::Rule::rule))]
+fn make(machine: Machine, row: Row, committed: &mut [u32], pending: &mut [u32]) -> Option<Outcome>
+    ensures { left_of result committed.new pending.new ≡ given (lent machine committed.old pending.old) row }
+{
     let out = match row {
         Row::Setup(cores, cards) => Machine::setup(cores, cards, committed, pending),
         Row::Release(core, job, deadline) => machine.release(core, job, deadline),
         Row::Begin(core) => machine.begin(core),
         Row::Read(core, card) => machine.read(core, card, committed, pending),
-        Row::Write(core, card, value) => machine.write(core, card, value, committed, pending),
+        Row::Write(core, card, number) => match value_of(number) {
+            Some(value) => machine.write(core, card, value, committed, pending),
+            None => Outcome {
+                machine,
+                answer: Answer::from(Refusal::Malformed),
+            },
+        },
         Row::Commit(core) => machine.commit(core, committed, pending),
         Row::GiveUp(core) => machine.give_up(core),
         Row::Finish(core) => machine.finish(core),
-        Row::Heading(name) => {
-            println!(rt; "{name}")?;
-            return Ok(machine);
-        }
-        Row::Cards => {
-            show_cards(rt, committed)?;
-            return Ok(machine);
-        }
-        Row::Malformed => {
-            show(rt, Answer::from(Refusal::Malformed))?;
-            return Ok(machine);
-        }
+        Row::Heading(_) | Row::Cards => return None,
     };
-    show(rt, out.answer)?;
-    Ok(out.machine)
+    Some(out)
 }
 
 // Writes an answer and its value, or `-` where it has none.

@@ -1,5 +1,8 @@
 // The examples of document 01 and of papers 1 and 4 as rows, and what a row is.
-use Row::{Begin, Cards, Commit, Finish, GiveUp, Heading, Malformed, Read, Release, Setup, Write};
+ghost use Rattle.std.specs.Prelude.{◌≡◌};
+ghost use Rattle.examples_run.specs.Rows.{value_of};
+
+use Row::{Begin, Cards, Commit, Finish, GiveUp, Heading, Read, Release, Setup, Write};
 
 // A call with its numbers, or what is written between the calls. The calls are not taken from `script`: each row would be
 // `Call(Setup(..))`, and this program would stand on what reads scripts.
@@ -13,8 +16,8 @@ pub enum Row {
     Begin(u32),
     // core, card
     Read(u32, u32),
-    // core, card, value
-    Write(u32, u32, u32),
+    // core, card, and the number for a value, which may be above 4,294,967,295
+    Write(u32, u32, u64),
     // core
     Commit(u32),
     GiveUp(u32),
@@ -23,8 +26,13 @@ pub enum Row {
     Heading(char),
     // the committed values
     Cards,
-    // a call with a number above 4,294,967,295: it makes no call
-    Malformed,
+}
+
+// The value that a call takes of a number: none where it is above 4,294,967,295.
+pub fn value_of(number: u64) -> Option<u32>
+    ensures { result ≡ value_of number }
+{
+    u32::try_from(number).ok()
 }
 
 // The examples, A to L, 1 and 4.
@@ -168,7 +176,7 @@ pub const ROWS: [Row; 278] = [
     Heading('L'),
     Setup(1, 1),
     Write(0, 0, 4_294_967_295),
-    Malformed,
+    Write(0, 0, 4_294_967_296),
     // who is first in the way: three earlier ones are in conflict, on cores 2, 0 and 3 in the order of their tickets; the one on core 4 is the
     // first of all and not in conflict, the one on core 5 is in conflict and later
     Heading('1'),

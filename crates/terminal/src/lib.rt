@@ -1,22 +1,28 @@
-// What the programs share: why a run ends early, the words for it, whether there is an argument, and input that is read to its end.
-// `main` stands in each program: it is the program's name, its usage and its run, and nothing more.
+// What the programs share: why a run ends early, the words for it, and whether there is an argument; and, for the program of sheets, input that
+// is read to its end. `main` stands in each program: it is the program's name, its usage and its run, and nothing more.
 #![tactic(auto)]
 
 ghost use Rattle.std.specs.Prelude.{◌<◌, ◌≤◌, length, take, IfOk};
 ghost use Rattle.std.specs.Io.KnownBytes.{Consumes, IsAtEnd};
 
 use std::env::{Env, FillError};
-use std::io;
 use std::io::Read;
-use thiserror::Error;
+use std::{fmt, io};
 
-// Why a run ends early, and the words for it.
-#[derive(Debug, Drop, Error)]
-pub enum Failure {
-    #[error("read: {0}")]
-    Read(io::Error),
-    #[error("write: {0}")]
-    Write(io::Error),
+// Why a run ends early. The error is a parameter: the words of io's own are the C library's, which a program reaches, and no library here.
+#[derive(Debug, Drop)]
+pub enum Failure<E> {
+    Read(E),
+    Write(E),
+}
+
+impl<E: fmt::Display> fmt::Display for Failure<E> {
+    fn fmt<W: fmt::Write>(&self, f: &mut fmt::Formatter<W>) -> fmt::Result {
+        match self {
+            Failure::Read(error) => write!(f, "read: {error}"),
+            Failure::Write(error) => write!(f, "write: {error}"),
+        }
+    }
 }
 
 // Whether the program was given an argument. It promises nothing: std's contract has no word for the arguments.

@@ -1,0 +1,2 @@
+-- The definitions that the contracts cite, beside the machine's.
+pub mod Rows
