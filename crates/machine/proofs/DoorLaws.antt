@@ -6,8 +6,7 @@ use Rattle.one_core.specs.declared.refusal.Refusal.{Refusal}
 use Rattle.one_core.specs.declared.refusal.Refusal.TheVariants.{Unsound, WrongTable}
 use Rattle.one_core.specs.Refusal.{number}
 use Rattle.one_core.specs.Calls.{unless_on}
-use Rattle.machine.specs.OneCore.{checked, checked_sound}
-use Rattle.machine.specs.declared.Machine.{Machine}
+use Rattle.machine.specs.OneCore.{checked}
 use Rattle.machine.specs.Record.{blank, machine_of, sizes_in_range}
 use Rattle.machine.specs.Sound.{sound}
 use Rattle.machine.specs.Inside.{SoundWorld}
@@ -23,23 +22,6 @@ use Rattle.machine.proofs.CallLaws.{refused-lent, accepted-lent}
 pub unsound-refused : (w : World) (call : Call) → sound w.machine ≡ false → record { answer = Refused 2; world = w } ≡ rule w call
 unfolding refusals
 unsound-refused w call s = refused-with w call 1 (hits _ _ _ (ap not s))
-
--- as it is tested
-pub standing-fine : (m : Machine) → Ok (tt {0}) ≡ checked_sound m → sound m ≡ true
-unfolding unless_on
-standing-fine m = go (sound m)
-  where
-    go : (s : Bool) → Ok (tt {0}) ≡ cond (not s) (Err Unsound) (Ok (tt {0})) → s ≡ true
-    go true e = refl
-    go false e = cc
-
-pub standing-refused : (w : World) (call : Call) (r : Refusal) → Err r ≡ checked_sound w.machine → record { answer = Refused (number r); world = w } ≡ rule w call
-unfolding unless_on
-standing-refused w call r = go (sound w.machine) refl
-  where
-    go : (s : Bool) → sound w.machine ≡ s → Err r ≡ cond (not s) (Err Unsound) (Ok (tt {0})) → record { answer = Refused (number r); world = w } ≡ rule w call
-    go true s e = cc
-    go false s e = refused-as w r Unsound (cc) ∙ unsound-refused w call s
 
 -- ---- 3: a table of another length
 

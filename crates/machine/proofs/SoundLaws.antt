@@ -1,9 +1,15 @@
 -- The laws behind the soundness test: the rules that one core keeps, and the rules gathered core by core.
-use Rattle.std.proofs.Common.{◌≡◌, ℕ, ◌+◌, ◌<◌, ◌≤◌, Bool, true, false, not, ◌&&◌, eqb, ltb, sym, refl, ap, ◌∙◌, ap₂, add-one, arith, le-leb}
+use Rattle.std.proofs.Common.{◌≡◌, ℕ, ◌+◌, ◌<◌, ◌≤◌, Bool, true, false, not, ◌&&◌, eqb, ltb, List, length, get_or, take, sym, refl, ap, ◌∙◌, ap₂, add-one, arith, le-leb, length-take-le}
+use Rattle.std.specs.List.{list_all}
+use Rattle.std.proofs.lemmas.List.{get_or-take}
+use Rattle.std.proofs.lemmas.List.Elements.{All-get_or, All-from_get_or}
+use Rattle.std.proofs.lemmas.List.Sums.{AllPass-from_list_all, list_all-from_AllPass}
 use Rattle.std.proofs.Math.Bool.{and_comm}
 use borrow.Author.Tests.{lt-leb}
 use Rattle.objset.specs.Objset.{each}
-use Rattle.objset.proofs.Laws.{one_each}
+use Rattle.objset.proofs.Laws.{one_each, each-one}
+use Rattle.one_core.specs.declared.Core.{Core}
+use Rattle.one_core.specs.Parts.{no_core}
 use Rattle.machine.specs.declared.Machine.{Machine}
 use Rattle.machine.specs.Record.{core_at, active_at, tally}
 use Rattle.one_core.specs.Tidy.{◌⇒◌, tidy, blank_on}
@@ -51,10 +57,6 @@ versions-bounded m = gather 64 _ _ _ refl
 
 -- ---- transactions in progress
 
--- the ticket t differs from the one in progress on core e
-abbrev pub differs_from : Machine → ℕ → ℕ → Bool
-differs_from m t e = (core_at m e).active ⇒ not (eqb t (core_at m e).ticket)
-
 -- what cores_kept tests of the transaction on core c
 abbrev pub turn_at : Machine → ℕ → Bool
 turn_at m c = each c (differ_at m c) && given_at m c && aborts_at m c
@@ -95,6 +97,26 @@ kept-all m n c p q e a =
     let s : c ≡ 16 = omega arith in
     ap₂ (λ (b : Bool) (x : ℕ). b && eqb m.tickets (m.commits + m.give_ups + x))
     (each_all 16 c (kept_at m) p q a ∙ cores-kept m) (e ∙ ap (λ (x : ℕ). tally x (active_at m)) s)
+
+-- a test of the cores before c
+pub before-each : (f : Core → Bool) (cores : List Core) (c : ℕ) → c ≤ length cores → list_all f (take c cores) ≡ each c (λ e. f (get_or cores e no_core))
+before-each f cores c l = same_test _ _ to from
+  where
+    long : length (take c cores) ≡ c
+    long = length-take-le c cores l
+
+    to : list_all f (take c cores) ≡ true → each c (λ e. f (get_or cores e no_core)) ≡ true
+    to h =
+        one_each c _
+        (λ e b.
+        ap f (sym (get_or-take c cores e no_core b))
+        ∙ All-get_or (λ k. f k ≡ true) (take c cores) e no_core (omega (arith, long)) (AllPass-from_list_all f (take c cores) h))
+
+    from : each c (λ e. f (get_or cores e no_core)) ≡ true → list_all f (take c cores) ≡ true
+    from h =
+        list_all-from_AllPass f (take c cores)
+        (All-from_get_or (λ k. f k ≡ true) (take c cores) no_core
+        (λ e b. let here : e < c = omega (arith, long) in ap f (get_or-take c cores e no_core here) ∙ each-one c _ h e here))
 
 pub ahead-all : (m : Machine) (t n b c : ℕ) → 16 ≤ c → c ≤ 16 → n ≡ b + tally c (smaller_at m t) → n ≡ b + smaller_tickets m t
 unfolding smaller_tickets

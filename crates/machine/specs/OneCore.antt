@@ -80,11 +80,7 @@ lends _ = false
 
 -- ---- what the public calls do besides
 
--- an unsound record is refused
-abbrev pub checked_sound : Machine → Result (Unit {0}) Refusal
-checked_sound m = unless_on ((unsound m, Unsound) ∷ []) tt
-
--- and so are wrong tables
+-- an unsound record and wrong tables are refused
 abbrev pub checked : World → Result (Unit {0}) Refusal
 checked w = unless_on ((unsound w.machine, Unsound) ∷ (wrong_tables w, WrongTable) ∷ []) tt
 

@@ -8,7 +8,7 @@ ghost use Rattle.std.specs.Prelude.{◌≡◌, ◌*◌, ◌&&◌, true, [], ◌=
 ghost use Rattle.machine.specs.Sound.{sound, is_blank};
 ghost use Rattle.machine.specs.Rule as Rule;
 ghost use Rattle.machine.specs.Rule.{lent, left, rule};
-ghost use Rattle.machine.specs.OneCore.{call_of, lends, zeroed, handed, checked, checked_sound};
+ghost use Rattle.machine.specs.OneCore.{call_of, lends, zeroed, handed, checked};
 ghost use Rattle.machine.specs.Record.{blank, sizes_in_range};
 ghost use Rattle.one_core.specs.declared.Answer.TheVariants.{Ready};
 ghost use Rattle.one_core.specs.Refusal.{answer_of};
@@ -210,7 +210,9 @@ impl Machine {
     fn unlent(&mut self, core: u32, act: Act) -> Result<Answer, Refusal>
         ensures { record { answer = answer_of result; machine = self.new } ≡ handed (rule (zeroed self.old) (call_of act core)) }
     {
-        self.standing()?;
+        if !is_sound(self) {
+            return Err(Refusal::Unsound);
+        }
         alone(self, core, act)
     }
 
@@ -247,22 +249,12 @@ impl Machine {
     fn tested(&self, committed: &[u32], pending: &[u32]) -> Result<(), Refusal>
         ensures { result ≡ checked (lent self.now committed.now pending.now) }
     {
-        self.standing()?;
+        if !is_sound(self) {
+            return Err(Refusal::Unsound);
+        }
         if !tables_fit(self.cores, self.objects, committed.len(), pending.len()) {
             return Err(Refusal::WrongTable);
         }
         Ok(())
-    }
-
-    // Whether the record is sound, `Unsound` if not.
-    #[tactic(auto, unfolding(one_core::specs::Calls::unless_on))]
-    fn standing(&self) -> Result<(), Refusal>
-        ensures { result ≡ checked_sound self.now }
-    {
-        if is_sound(self) {
-            Ok(())
-        } else {
-            Err(Refusal::Unsound)
-        }
     }
 }

@@ -7,17 +7,16 @@ ghost use Rattle.one_core.specs.Parts.{most_cores};
 use crate::{Machine, in_range};
 
 // Whether no version exceeds the commits, and the places for objects (document 01: cards) that the machine lacks hold zeros. The loop is
-// not left early: so the compiler compares several at a time.
+// not left early, and the commits are read before it, not by each turn: so the compiler compares several at a time.
 fn versions_bounded(m: &Machine) -> bool
     ensures { result ≡ cards_sound m.now }
 {
     let objects = m.objects as usize;
+    let commits = m.commits;
     let mut kept = true;
     for (d, version) in m.versions.iter().enumerate() {
-        let most = if d < objects { m.commits } else { 0 };
-        if most < *version {
-            kept = false;
-        }
+        let most = if d < objects { commits } else { 0 };
+        kept &= *version <= most;
     }
     kept
 }
@@ -30,16 +29,14 @@ fn turn_kept(m: &Machine, c: usize, ticket: u32, aborts: u8) -> bool
     ensures { result ≡ turn_kept m.now c ticket aborts }
 {
     let mut smaller = aborts as usize;
-    for (e, k) in m.core.iter().enumerate() {
-        if k.active {
-            if k.ticket < ticket {
-                smaller += 1;
-            } else if k.ticket == ticket && e < c {
-                return false;
-            }
+    for k in &m.core {
+        if k.active && k.ticket < ticket {
+            smaller += 1;
         }
     }
-    ticket < m.tickets && smaller < m.cores as usize
+    m.core[..c].iter().all(|k| !k.active || ticket != k.ticket)
+        && ticket < m.tickets
+        && smaller < m.cores as usize
 }
 
 // Whether each core is tidy and its transaction keeps those rules, each core that the machine lacks is blank, and the count of tickets

@@ -1,6 +1,6 @@
 -- The laws behind the soundness test of one core.
-use Rattle.std.specs.Prelude.{◌≡◌, ℕ, ◌+◌, ◌-◌, ◌*◌, ◌<◌, ◌≤◌, Bool, true, false, not, ◌&&◌, ◌||◌, eqb, leb, ltb, List, length, get_or, take, drop}
-use Rattle.std.specs.List.{list_all}
+use Rattle.std.specs.Prelude.{◌≡◌, ℕ, ◌+◌, ◌-◌, ◌*◌, ◌<◌, ◌≤◌, Bool, true, false, not, ◌&&◌, ◌||◌, eqb, ltb, List, length, get_or, take, drop}
+use Rattle.std.specs.List.{list_all, enumerate_from}
 use mathlib.Core.Path.{refl, sym, ap, ap₂, ◌∙◌}
 use mathlib.Core.Bool.{and_comm}
 use native.Mathlib.Omega.{arith}
@@ -8,9 +8,10 @@ use native.Mathlib.Numerals.{add-one}
 use lib.ListN.{length-drop}
 use lib.Seq.{length-take-le, get_or-take, get_or-drop}
 use Rattle.std.proofs.lemmas.List.{get_or_default}
+use Rattle.std.proofs.lemmas.List.FromFn.{get_or-enumerate_from, length-enumerate_from}
 use Rattle.std.proofs.lemmas.List.Sums.{AllPass-from_list_all, list_all-from_AllPass}
 use lib.Bits.{bit_or, or_zero_l, or_add_and, and_le_r}
-use borrow.Author.Tests.{leb-true, le-leb, ltb-true, eqb-true, eqb-false, eq-eqb, ne_eqb, lt-ltb}
+use borrow.Author.Tests.{ltb-true, eqb-true, eqb-false, eq-eqb, ne_eqb, lt-ltb}
 use Rattle.objset.specs.Objset.{has, each, joined, below}
 use Rattle.objset.proofs.Digits.{has-collect}
 use Rattle.objset.proofs.Laws.{both_left, both_right, each-one, one_each}
@@ -18,7 +19,7 @@ use Rattle.one_core.specs.declared.Core.{Core}
 use Rattle.one_core.specs.declared.Job.{Job}
 use Rattle.one_core.specs.Parts.{no_job, job_at}
 use Rattle.one_core.specs.Tidy.{◌⇒◌, empty_sets, zero_job, owner_first_on, blank_on}
-use Rattle.one_core.proofs.TestLaws.{same_test, if-true, true-if, each-fails, each_same, each_both}
+use Rattle.one_core.proofs.TestLaws.{same_test, if-true, true-if, each_same, each_both}
 
 -- ---- two sets together
 
@@ -39,17 +40,26 @@ joined-below a b n =
 
 -- ---- the jobs of a list
 
--- the places from n on hold zeros
-abbrev pub unused_zero : List Job → ℕ → Bool
-unused_zero jobs n = each 8 (λ p. leb n p ⇒ zero_job (get_or jobs p no_job))
+-- f holds of every job with its place if and only if it holds at each place
+pub places-each : (f : ℕ × Job → Bool) (jobs : List Job) → length jobs ≡ 8 → list_all f (enumerate_from 0 jobs) ≡ each 8 (λ q. f (q, get_or jobs q no_job))
+places-each f jobs long = same_test _ _ to from
+  where
+    at : (q : ℕ) (d : ℕ × Job) → q < 8 → get_or (enumerate_from 0 jobs) q d ≡ (q, get_or jobs q no_job)
+    at q d l =
+        let here : q < length jobs = omega arith in
+        let place : 0 + q ≡ q = omega arith in
+        get_or-enumerate_from 0 jobs q d here ∙ ap₂ (λ (a : ℕ) (b : Job). (a, b)) place (get_or_default jobs q d.1 no_job here)
 
-pub unused-zero : (jobs : List Job) (n p : ℕ) → 8 ≤ p → ((q : ℕ) → q < p → n ≤ q → zero_job (get_or jobs q no_job) ≡ true)
-    → true ≡ unused_zero jobs n
-unused-zero jobs n p l h =
-    sym (one_each 8 _ (λ q b. true-if (leb n q) (zero_job (get_or jobs q no_job)) (λ t. h q (omega arith) (leb-true n q t))))
+    to : list_all f (enumerate_from 0 jobs) ≡ true → each 8 (λ q. f (q, get_or jobs q no_job)) ≡ true
+    to h =
+        one_each 8 _
+        (λ q b. ap f (sym (at q (0, no_job) b))
+        ∙ AllPass-from_list_all f (enumerate_from 0 jobs) h q (0, no_job) (omega (arith, length-enumerate_from 0 jobs)))
 
-pub unused-not-zero : (jobs : List Job) (n p : ℕ) → n ≤ p → p < 8 → zero_job (get_or jobs p no_job) ≡ false → false ≡ unused_zero jobs n
-unused-not-zero jobs n p l b e = each-fails 8 _ p b (rw (le-leb n p l, e))
+    from : each 8 (λ q. f (q, get_or jobs q no_job)) ≡ true → list_all f (enumerate_from 0 jobs) ≡ true
+    from h =
+        list_all-from_AllPass f (enumerate_from 0 jobs)
+        (λ q d l. let here : q < 8 = omega (arith, length-enumerate_from 0 jobs) in ap f (at q d here) ∙ each-one 8 _ h q here)
 
 -- f holds of every job of a part of the list, from place n on, if and only if it holds at each of its places, which g picks out
 pub part-each : (f : Job → Bool) (g : ℕ → Bool) (jobs part : List Job) (n m : ℕ) → length jobs ≡ 8 → part ≡ take m (drop n jobs) → n + m ≤ 8

@@ -43,13 +43,11 @@ impl Core {
     fn unused_zero(&self) -> bool
         ensures { result ≡ unused_jobs_on self.now }
     {
-        let jobs = self.jobs;
-        for p in self.count as usize..JOBS {
-            if jobs[p] != Job::default() {
-                return false;
-            }
-        }
-        true
+        let count = self.count as usize;
+        self.jobs
+            .iter()
+            .enumerate()
+            .all(|(p, j)| p < count || *j == Job::default())
     }
 
     // Whether every job listed before the owner's has a greater deadline.

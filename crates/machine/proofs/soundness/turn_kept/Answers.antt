@@ -1,60 +1,75 @@
--- `machine::soundness::turn_kept` meets its contract: the count is of the cores passed, and those before core c have other tickets.
-use Rattle.std.proofs.Common.{◌≡◌, ℕ, ◌+◌, true, false, ltb, sym, refl, ap, arith, below_none, below_more, le-ltb, lt-ltb, eq-eqb, ne_eqb}
-use Rattle.objset.proofs.Laws.{one_each}
-use Rattle.machine.specs.Record.{core_at, tally}
-use Rattle.one_core.proofs.TestLaws.{each-fails}
+-- `machine::soundness::turn_kept` meets its contract.
+use Rattle.std.proofs.Common.{◌≡◌, ℕ, ◌+◌, true, false, refl, lt-ltb, le-ltb, Bool, not, ◌&&◌, ltb, eqb, take, length, sym, ap, ◌∙◌, ap₂, arith, rules}
+use borrow.Author.Tests.{tests}
+use Rattle.std.specs.List.{list_all}
+use Rattle.std.proofs.lemmas.Grind.{common_steps}
+use Rattle.std.proofs.lemmas.Iterator.{YieldsList-from_slice}
+use Rattle.std.proofs.lemmas.Iterator.Search.{all_from_yields_List}
+use Rattle.objset.specs.Objset.{each}
+use Rattle.machine.specs.Record.{core_at}
+use Rattle.one_core.specs.declared.Core.{Core}
+use Rattle.one_core.specs.Tidy.{◌⇒◌}
+use Rattle.machine.specs.Record.{tally}
+use Rattle.machine.specs.Sound.{smaller_at, smaller_tickets}
 use Rattle.machine.proofs.Tally.{tally-none, tally-counts, tally-skips}
-use Rattle.machine.specs.Sound.{smaller_at}
-use Rattle.machine.proofs.SoundLaws.{ahead-all, differs_from}
+use Rattle.machine.proofs.SoundLaws.{before-each, ahead-all}
 use Rattle.machine.proofs.soundness.turn_kept.Goals as goal
-use Rattle.machine.proofs.soundness.turn_kept.Goals.{then-k+then-k-ticket, then-k+else-k-ticket+else-k-ticket-2, else-k-ticket-2-via-then-k-ticket-2+else-e-c, else-k-ticket-2-via-else-k-ticket-2, else-k}
+use Rattle.machine.proofs.soundness.turn_kept.Goals.{After-all, then-k+then-k-ticket, else-k, else-k-via-then-k+else-k-ticket, else-k-via-else-k}
 
-pub loop-e-init : goal.loop-e-init
-loop-e-init c = (omega arith, omega (arith, tally-none (smaller_at c.args.m.now c.args.ticket)), below_none _)
+-- the core's ticket differs from t, if it has a transaction
+differs : ℕ → Core → Bool
+differs t k = k.active ⇒ not (eqb t k.ticket)
 
-pub returns-then-e-c : goal.returns-then-e-c
-returns-then-e-c c =
-    let s = c.args in
-    rw (sym (each-fails s.c (differs_from s.m.now s.ticket) c.loop-e.e c.if-e-c.true
-    (rw (c.if-k.true, eq-eqb s.ticket (core_at s.m.now c.loop-e.e).ticket (sym c.if-k-ticket-2.true)))))
+-- the tickets of those before differ
+others : (c : After-all) → c.all.result ≡ each c.args.c (λ e. differs c.args.ticket (core_at c.args.m.now e))
+unfolding differs
+others c =
+    let m = c.args.m.now in
+    let t = c.args.ticket in
+    let long : length m.core ≡ 16 = search rules in
+    let run : c.all.result ≡ list_all (differs t) (take c.args.c m.core) =
+    all_from_yields_List (differs t) _ _ c.all.result c.all.ensures.ran (YieldsList-from_slice (take c.args.c m.core) cc) (λ x b q h. search (rules, tests)) in
+    run ∙ before-each (differs t) m.core c.args.c (omega (arith, long, c.requires))
 
-pub loop-e-preserved : goal.loop-e-preserved
-loop-e-preserved c =
+-- the smaller ones are counted
+smaller : (c : After-all) → c.loop-k.smaller ≡ c.args.aborts + smaller_tickets c.args.m.now c.args.ticket
+smaller c = ahead-all c.args.m.now c.args.ticket c.loop-k.smaller c.args.aborts c.loop-k.k-index c.loop-k-test.false c.loop-k.auto.k-index-end c.loop-k.invariant.1
+
+pub loop-k-init : goal.loop-k-init
+loop-k-init c = (omega arith, omega (arith, tally-none (smaller_at c.args.m.now c.args.ticket)))
+
+pub loop-k-preserved : goal.loop-k-preserved
+loop-k-preserved c =
     let s = c.args in
     let f = smaller_at s.m.now s.ticket in
-    let e = c.loop-e.e in
+    let e = c.loop-k.k-index in
     let counts : f e ≡ true → tally e f + 1 ≡ tally (e + 1) f = tally-counts (tally e f) e f refl in
     let skips : f e ≡ false → tally e f ≡ tally (e + 1) f = tally-skips (tally e f) e f refl in (
-      elim c.if-k.branch [ then-k+then-k-ticket w ↦ omega arith | then-k+else-k-ticket+else-k-ticket-2 w ↦ omega arith | else-k w ↦ omega arith ],
+      elim c.if-k.branch [ then-k+then-k-ticket w ↦ omega arith | else-k w ↦ omega arith ],
       elim c.if-k.branch [
         | then-k+then-k-ticket w ↦ omega (arith, counts (rw (w.if-k.true, lt-ltb _ _ w.if-k-ticket.true)))
-        | then-k+else-k-ticket+else-k-ticket-2 w ↦ omega (arith, skips (rw (w.if-k.true, le-ltb _ _ w.if-k-ticket.false)))
-        | else-k w ↦ omega (arith, skips (rw w.if-k.false))
-      ],
-      below_more _ _ c.loop-e.invariant.2 (λ h. elim c.if-k.branch [
-        | then-k+then-k-ticket w ↦ rw (w.if-k.true, ne_eqb s.ticket (core_at s.m.now e).ticket (λ p. omega (arith, w.if-k-ticket.true)))
-        | then-k+else-k-ticket+else-k-ticket-2 w ↦ elim w.else-k-ticket-2.branch [
-          | else-k-ticket-2-via-then-k-ticket-2+else-e-c v ↦ absurd (omega (arith, v.if-e-c.false))
-          | else-k-ticket-2-via-else-k-ticket-2 v ↦ rw (w.if-k.true, ne_eqb s.ticket (core_at s.m.now e).ticket (λ p. v.if-k-ticket-2.false (sym p)))
+        | else-k w ↦ elim w.else-k.branch [
+          | else-k-via-then-k+else-k-ticket v ↦ omega (arith, skips (rw (v.if-k.true, le-ltb _ _ v.if-k-ticket.false)))
+          | else-k-via-else-k v ↦ omega (arith, skips (rw v.if-k.false))
         ]
-        | else-k w ↦ rw w.if-k.false
-      ]),
+      ],
     )
 
--- those before core c have other tickets
 pub returns-then-ticket-m : goal.returns-then-ticket-m
+unfolding differs
 returns-then-ticket-m c =
     let s = c.args in
-    rw (
-      one_each s.c (differs_from s.m.now s.ticket) (λ x h. c.loop-e.invariant.2 x (omega (arith, c.requires, c.loop-e-test.false)) h),
-      lt-ltb _ _ c.if-ticket-m.true,
-    )
-    (ap (λ (x : ℕ). ltb x s.m.now.cores) (ahead-all s.m.now s.ticket _ s.aborts _ c.loop-e-test.false c.loop-e.auto.e-end c.loop-e.invariant.1))
+    let at = (goal.at.returns-then-ticket-m c).After-all in
+    let two : c.if-all.value ≡ (c.all.result && ltb s.ticket s.m.now.tickets) = grind (arith, common_steps) in
+    ap₂ (λ (b : Bool) (n : ℕ). b && ltb n s.m.now.cores)
+    (sym c.if-ticket-m.true ∙ two ∙ ap (λ (b : Bool). b && ltb s.ticket s.m.now.tickets) (others at)) (smaller at)
 
 pub returns-else-ticket-m : goal.returns-else-ticket-m
+unfolding differs
 returns-else-ticket-m c =
     let s = c.args in
-    rw (
-      one_each s.c (differs_from s.m.now s.ticket) (λ x h. c.loop-e.invariant.2 x (omega (arith, c.requires, c.loop-e-test.false)) h),
-      le-ltb _ _ c.if-ticket-m.false,
-    )
+    let at = (goal.at.returns-else-ticket-m c).After-all in
+    let two : c.if-all.value ≡ (c.all.result && ltb s.ticket s.m.now.tickets) = grind (arith, common_steps) in
+    c.if-ticket-m.false
+    ∙ ap (λ (b : Bool). b && ltb (s.aborts + smaller_tickets s.m.now s.ticket) s.m.now.cores)
+    (sym c.if-ticket-m.false ∙ two ∙ ap (λ (b : Bool). b && ltb s.ticket s.m.now.tickets) (others at))

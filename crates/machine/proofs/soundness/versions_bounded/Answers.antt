@@ -1,12 +1,13 @@
 -- `machine::soundness::versions_bounded` meets its contract: the answer is of the versions passed.
-use Rattle.std.proofs.Common.{◌≡◌, ℕ, ◌<◌, ◌≤◌, Bool, true, false, ◌&&◌, leb, ◌⊎◌, get_or, sym, refl, ap, ◌∙◌, inl, inr, ⊎_elim, arith, eq-eqb, ne_eqb, le-leb}
+use Rattle.std.proofs.Common.{◌≡◌, ap₂, ℕ, ◌<◌, ◌≤◌, ◌&&◌, leb, ◌⊎◌, get_or, sym, ap, ◌∙◌, inl, inr, ⊎_elim, arith, eq-eqb, eqb-true, leb-true, le-leb}
 use borrow.Author.Tests.{lt-leb}
 use Rattle.objset.specs.Objset.{each}
+use Rattle.objset.proofs.Laws.{both_right}
 use Rattle.machine.specs.declared.Machine.{Machine}
-use Rattle.one_core.proofs.TestLaws.{each-fails, each_none, each_on}
-use Rattle.machine.proofs.SoundLaws.{card_at, versions-bounded}
+use Rattle.one_core.proofs.TestLaws.{and-true, same_test, each_none}
+use Rattle.machine.proofs.SoundLaws.{card_at, each_next, versions-bounded}
 use Rattle.machine.proofs.soundness.versions_bounded.Goals as goal
-use Rattle.machine.proofs.soundness.versions_bounded.Goals.{then-d-objects, else-d-objects, then-most-version, else-most-version}
+use Rattle.machine.proofs.soundness.versions_bounded.Goals.{then-d-objects, else-d-objects}
 
 -- the most that the version of object d may be: the commits, or 0 where the machine lacks the object
 Most : Machine → ℕ → ℕ → Type 0
@@ -16,25 +17,14 @@ module _ (m : Machine) (d most : ℕ) (at_most : Most m d most) where
   version : ℕ
   version = get_or m.versions d 0
 
-  fits : version ≤ most → card_at m d ≡ true
+  -- the test of the version is the rules' of card d
+  tested : leb version most ≡ card_at m d
   unfolding Most version
-  fits l =
-      ⊎_elim (λ w. rw (le-leb version m.commits (omega (arith, w.1)), lt-leb m.objects d w.0))
-      (λ w. rw (
-        le-leb version m.commits (omega (arith, w.1)),
-        le-leb m.objects d w.0,
-        eq-eqb version 0 (omega (arith, w.1)),
-      )) at_most
-
-  exceeds : most < version → card_at m d ≡ false
-  unfolding Most version
-  exceeds l =
-      ⊎_elim (λ w. rw (lt-leb version m.commits (omega (arith, w.1))))
-      (λ w. rw (le-leb m.objects d w.0, ne_eqb version 0 (λ z. omega arith)) (and-false (leb version m.commits))) at_most
-    where
-      and-false : (b : Bool) → (b && false) ≡ false
-      and-false true = refl
-      and-false false = refl
+  tested =
+      ⊎_elim (λ w. rw (w.1, lt-leb m.objects d w.0) (sym (and-true (leb version m.commits))))
+      (λ w. rw (w.1, le-leb m.objects d w.0) (same_test _ _
+      (λ e. let zero = leb-true _ _ e in rw (le-leb version m.commits (omega (arith, zero)), eq-eqb version 0 (omega (arith, zero))))
+      (λ e. le-leb _ _ (omega (arith, eqb-true version 0 (both_right (leb version m.commits) _ e)))))) at_most
 
 pub loop-d-init : goal.loop-d-init
 loop-d-init c = sym (each_none _)
@@ -45,10 +35,7 @@ loop-d-preserved c =
     let m = c.args.m.now in
     let most = c.if-d-objects in
     let at_most : Most m c.loop-d.d most.most = elim most.branch [ then-d-objects w ↦ inl (w.if-d-objects.true, w.most-is) | else-d-objects w ↦ inr (w.if-d-objects.false, w.most-is) ] in
-    elim c.if-most-version.branch [
-      | then-most-version w ↦ w.kept-is ∙ each-fails _ (card_at m) c.loop-d.d (omega arith) (exceeds m _ _ at_most w.if-most-version.true)
-      | else-most-version w ↦ w.kept-is ∙ c.loop-d.invariant ∙ each_on c.loop-d.d (card_at m) (fits m _ _ at_most w.if-most-version.false)
-    ]
+    ap₂ ◌&&◌ c.loop-d.invariant (tested m _ _ at_most) ∙ each_next c.loop-d.d (card_at m)
 
 pub returns : goal.returns
 returns c =
