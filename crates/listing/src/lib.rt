@@ -1,10 +1,10 @@
 // The lines of a listing (document 01, 'Script and listing'): the heading, and one line for each line read.
 //
 // The contracts cite `specs/Text.antt`: `line n a` is the line for line n of the script, and `put` what putting a text over the first
-// bytes of an output leaves there. `proofs/Laws.antt` has what a caller knows of them. The functions require nothing.
+// bytes of an output leaves there. `proofs/Laws.antt` has what a caller knows of them. The public functions require nothing.
 #![tactic(auto)]
 
-ghost use Rattle.std.specs.Prelude.{◌≡◌, length};
+ghost use Rattle.std.specs.Prelude.{◌≡◌, ◌≤◌, length};
 ghost use Rattle.decimal.specs.Spelling.{spelling};
 ghost use Rattle.listing.specs.Text.{heading, spaced, value_text, field_text, line, fitting, put, fitting_at, placed};
 
@@ -19,6 +19,9 @@ struct Said {
 
 // Any line of a listing fits into so many bytes.
 const ROOM: usize = 32;
+
+// No answer's word has more bytes, the two spaces with it.
+const LONGEST_WORD: usize = 11;
 
 // Puts the heading over the first bytes of the output, and answers how many there are. The bytes
 // after them keep what they held. An output under 32 bytes keeps its bytes, and the answer is 0.
@@ -44,7 +47,7 @@ pub fn put_line(number: u32, answer: Answer, output: &mut [u8]) -> usize
     }
     let said = said_of(answer);
     let mut k = put_number(number, output, 0);
-    k += put_bytes(output, k, said.word);
+    k += put_word(said.word, output, k);
     k += put_field(said.value, output, k);
     k + put_bytes(output, k, b"\n")
 }
@@ -69,6 +72,18 @@ fn said_of(answer: Answer) -> Said
         Answer::Refused(number) => (b" refused ", Some(u32::from(number))),
     };
     Said { word, value }
+}
+
+// Puts an answer's word over the output's bytes from `at` on, and answers how many bytes it has, as `put_bytes` does of any text. It is copied
+// into a place of its own first: of a copy straight from the constants the compiler makes a call of memmove, which firmware need not have.
+fn put_word(word: &[u8], output: &mut [u8], at: usize) -> usize
+    requires { length word.now ≤ 11 }
+    ensures count { result ≡ length (fitting_at at word.now output.old) }
+    ensures bytes { output.new ≡ placed at word.now output.old }
+{
+    let mut place = [0u8; LONGEST_WORD];
+    place[..word.len()].copy_from_slice(word);
+    put_bytes(output, at, &place[..word.len()])
 }
 
 // Puts a value, or `-` where there is none, over the output's bytes from `at` on, and answers how many bytes that is.
