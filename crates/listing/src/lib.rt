@@ -1,27 +1,27 @@
 // The lines of a listing (document 01, 'Script and listing'): the heading, and one line for each line read.
 //
 // The contracts cite `specs/Text.antt`: `line n a` is the line for line n of the script, and `put` what putting a text over the first
-// bytes of an output leaves there. `proofs/Laws.antt` has what a caller knows of them. The public functions require nothing.
+// bytes of an output leaves there. `proofs/Laws.antt` has what a caller knows of them. The functions require nothing.
 #![tactic(auto)]
 
-ghost use Rattle.std.specs.Prelude.{◌≡◌, ◌≤◌, length};
+ghost use Rattle.std.specs.Prelude.{◌≡◌, length, take};
 ghost use Rattle.decimal.specs.Spelling.{spelling};
 ghost use Rattle.listing.specs.Text.{heading, spaced, value_text, field_text, line, fitting, put, fitting_at, placed};
 
 use one_core::Answer;
 
-// What stands between a line's number and its newline: the answer's word between two spaces, and its value, where it has one.
+// What stands between a line's number and its newline: a text whose first bytes are the answer's word between two spaces, how many they are,
+// and its value, where it has one. The text stands here by value: a slice of the constants is copied by memmove, which the archive for C
+// would need from outside.
 #[derive(Clone, Copy)]
 struct Said {
-    word: &'static [u8],
+    text: [u8; 11],
+    length: usize,
     value: Option<u32>,
 }
 
 // Any line of a listing fits into so many bytes.
 const ROOM: usize = 32;
-
-// No answer's word has more bytes, the two spaces with it.
-const LONGEST_WORD: usize = 11;
 
 // Puts the heading over the first bytes of the output, and answers how many there are. The bytes
 // after them keep what they held. An output under 32 bytes keeps its bytes, and the answer is 0.
@@ -47,43 +47,36 @@ pub fn put_line(number: u32, answer: Answer, output: &mut [u8]) -> usize
     }
     let said = said_of(answer);
     let mut k = put_number(number, output, 0);
-    k += put_word(said.word, output, k);
+    k += put_bytes(output, k, &said.text[..said.length]);
     k += put_field(said.value, output, k);
     k + put_bytes(output, k, b"\n")
 }
 
 // What an answer says.
 fn said_of(answer: Answer) -> Said
-    ensures word { result.word.now ≡ spaced answer }
+    ensures count { result.length ≡ length (spaced answer) }
+    ensures text { take result.length result.text ≡ spaced answer }
     ensures value { field_text result.value ≡ value_text answer }
 {
-    let (word, value): (&[u8], Option<u32>) = match answer {
-        Answer::Ready => (b" ready ", None),
-        Answer::Running => (b" running ", None),
-        Answer::Queued => (b" queued ", None),
-        Answer::Begun(ticket) => (b" begun ", Some(ticket)),
-        Answer::Value(value, _) => (b" value ", Some(value)),
-        Answer::Written => (b" written ", None),
-        Answer::Waits(core) => (b" waits ", Some(u32::from(core))),
-        Answer::Committed(setbacks) => (b" committed ", Some(u32::from(setbacks))),
-        Answer::SetBack => (b" setback ", None),
-        Answer::Ended => (b" ended ", None),
-        Answer::Finished(job) => (b" finished ", Some(u32::from(job))),
-        Answer::Refused(number) => (b" refused ", Some(u32::from(number))),
+    let (text, length, value) = match answer {
+        Answer::Ready => (*b" ready     ", 7, None),
+        Answer::Running => (*b" running   ", 9, None),
+        Answer::Queued => (*b" queued    ", 8, None),
+        Answer::Begun(ticket) => (*b" begun     ", 7, Some(ticket)),
+        Answer::Value(value, _) => (*b" value     ", 7, Some(value)),
+        Answer::Written => (*b" written   ", 9, None),
+        Answer::Waits(core) => (*b" waits     ", 7, Some(u32::from(core))),
+        Answer::Committed(setbacks) => (*b" committed ", 11, Some(u32::from(setbacks))),
+        Answer::SetBack => (*b" setback   ", 9, None),
+        Answer::Ended => (*b" ended     ", 7, None),
+        Answer::Finished(job) => (*b" finished  ", 10, Some(u32::from(job))),
+        Answer::Refused(number) => (*b" refused   ", 9, Some(u32::from(number))),
     };
-    Said { word, value }
-}
-
-// Puts an answer's word over the output's bytes from `at` on, and answers how many bytes it has, as `put_bytes` does of any text. It is copied
-// into a place of its own first: of a copy straight from the constants the compiler makes a call of memmove, which firmware need not have.
-fn put_word(word: &[u8], output: &mut [u8], at: usize) -> usize
-    requires { length word.now ≤ 11 }
-    ensures count { result ≡ length (fitting_at at word.now output.old) }
-    ensures bytes { output.new ≡ placed at word.now output.old }
-{
-    let mut place = [0u8; LONGEST_WORD];
-    place[..word.len()].copy_from_slice(word);
-    put_bytes(output, at, &place[..word.len()])
+    Said {
+        text,
+        length,
+        value,
+    }
 }
 
 // Puts a value, or `-` where there is none, over the output's bytes from `at` on, and answers how many bytes that is.

@@ -7,7 +7,7 @@ use Rattle.one_core.specs.declared.Answer.{Answer}
 use Rattle.listing.specs.Text.{spaced, value_text, said, line}
 use Rattle.listing.proofs.Laws.{line-short, spaced-short, value-short, nothing_put, Stands, stands-none, stands-next, stands-put}
 use Rattle.listing.proofs.put_line.Goals as goal
-use Rattle.listing.proofs.put_line.Goals.{After-put_bytes, After-put_word-k, After-put_field-k, After-put_number-k, After-said_of-said, Start}
+use Rattle.listing.proofs.put_line.Goals.{After-put_bytes, After-put_bytes-k, After-put_field-k, After-put_number-k, After-said_of-said, Start}
 
 -- the four texts are the line
 parts : (n : ℕ) (a : Answer) → spelling n ++ spaced a ++ value_text a ++ ascii "\n" ≡ line n a
@@ -39,14 +39,14 @@ to-value-short n a = rw length-append (omega (arith, to-word-short n a, value-sh
 abbrev of_number : After-put_number-k → Start
 of_number c = (goal.at.After-put_number-k c).Start
 
-abbrev to_number : After-put_word-k → After-put_number-k
-to_number c = (goal.at.After-put_word-k c).After-put_number-k
+abbrev to_number : After-put_bytes-k → After-put_number-k
+to_number c = (goal.at.After-put_bytes-k c).After-put_number-k
 
-abbrev of_word : After-put_word-k → Start
+abbrev of_word : After-put_bytes-k → Start
 of_word c = of_number (to_number c)
 
-abbrev to_word : After-put_field-k → After-put_word-k
-to_word c = (goal.at.After-put_field-k c).After-put_word-k
+abbrev to_word : After-put_field-k → After-put_bytes-k
+to_word c = (goal.at.After-put_field-k c).After-put_bytes-k
 
 abbrev of-value : After-put_field-k → Start
 of-value c = of_word (to_word c)
@@ -58,8 +58,8 @@ abbrev of-line : After-put_bytes → Start
 of-line c = of-value (to-value c)
 
 -- where the next byte goes
-abbrev past_word : After-put_word-k → ℕ
-past_word c = (to_number c).put_number-k.result + c.put_word-k.result
+abbrev past_word : After-put_bytes-k → ℕ
+past_word c = (to_number c).put_number-k.result + c.put_bytes-k.result
 
 abbrev past_value : After-put_field-k → ℕ
 past_value c = past_word (to_word c) + c.put_field-k.result
@@ -72,11 +72,11 @@ number-stands c =
     let short = spelling-length (of_number c).args.number in
     rw zero-add at (stands-next (number (of_number c)) (stands-none (output (of_number c))) (omega arith) done.count done.bytes)
 
-word_stands : (c : After-put_word-k)
-    → Stands (number (of_word c) ++ word (of_word c)) (output (of_word c)) (past_word c) c.put_word-k.new.output
+word_stands : (c : After-put_bytes-k)
+    → Stands (number (of_word c) ++ word (of_word c)) (output (of_word c)) (past_word c) c.put_bytes-k.new.output
 word_stands c =
     let args = (of_word c).args in
-    let done = rw c.said_of-said.ensures.word at c.put_word-k.ensures in
+    let done = rw c.said_of-said.ensures.text at c.put_bytes-k.ensures in
     stands-next (word (of_word c)) (number-stands (to_number c)) (omega (arith, spelling-length args.number, spaced-short args.answer)) done.count done.bytes
 
 value-stands : (c : After-put_field-k)
@@ -97,9 +97,6 @@ line-stands c =
 
 -- ---- the needs
 
-pub put_word-k-requires : goal.put_word-k-requires
-put_word-k-requires c = rw c.said_of-said.ensures.word (spaced-short c.args.answer)
-
 pub returns-then-output-lt-ROOM : goal.returns-then-output-lt-ROOM
 returns-then-output-lt-ROOM c =
     let args = c.args in
@@ -108,8 +105,8 @@ returns-then-output-lt-ROOM c =
 
 pub overflow_add-k : goal.overflow_add-k
 overflow_add-k c =
-    let args = (of_word (goal.at.overflow_add-k c).After-put_word-k).args in
-    omega (arith, (word_stands (goal.at.overflow_add-k c).After-put_word-k).count, to-word-short args.number args.answer)
+    let args = (of_word (goal.at.overflow_add-k c).After-put_bytes-k).args in
+    omega (arith, (word_stands (goal.at.overflow_add-k c).After-put_bytes-k).count, to-word-short args.number args.answer)
 
 pub overflow_add-k-2 : goal.overflow_add-k-2
 overflow_add-k-2 c =
