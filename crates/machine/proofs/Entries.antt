@@ -1,6 +1,6 @@
--- The entries of the lists that calls hand back: one core put in place, the cores after a commit, the cards that it wrote; and of a
--- list's part.
-use Rattle.std.proofs.Common.{◌≡◌, ℕ, zero, suc, ◌+◌, ◌-◌, ◌<◌, Bool, true, false, cond, eqb, List, [], ◌∷◌, length, get_or, take, drop, set, sym, refl, ap, ◌∙◌, subst, arith, length-drop, get_or-drop, take_all, get_or-set_other, get_or-set_same, eqb-true}
+-- The entries of the lists that calls hand back: one core put in place, the cores after a commit, the cards that it wrote, of a longer table
+-- the first words alone; and of a list's part.
+use Rattle.std.proofs.Common.{◌≡◌, ℕ, zero, suc, ◌+◌, ◌-◌, ◌<◌, ◌≤◌, Bool, true, false, cond, eqb, List, [], ◌∷◌, ◌++◌, length, get_or, take, drop, set, sym, refl, ap, ◌∙◌, subst, ap₂, arith, length-drop, get_or-drop, take_all, get_or-set_other, get_or-set_same, eqb-true}
 use borrow.Author.Tests.{eqb-false}
 use Rattle.objset.specs.Objset.{has}
 use Rattle.one_core.specs.declared.Core.{Core}
@@ -60,6 +60,27 @@ pub changed-long : (ws : ℕ) (f : ℕ → ℕ → ℕ) (i : ℕ) (xs : List ℕ
 unfolding changed
 changed-long ws f i [] = refl
 changed-long ws f i (x ∷ xs) = ap suc (changed-long ws f (suc i) xs)
+
+-- where the set has no member among these places, nothing is changed
+changed-outside : (ws : ℕ) (f : ℕ → ℕ → ℕ) (i : ℕ) (xs : List ℕ) → ((d : ℕ) → i ≤ d → d < i + length xs → has ws d ≡ true → ⊥) → changed ws f i xs ≡ xs
+unfolding changed
+changed-outside ws f i [] h = refl
+changed-outside ws f i (x ∷ xs) h =
+    ap₂ ◌∷◌ (go (has ws i) refl) (changed-outside ws f (suc i) xs (λ d l m p. h d (omega (arith, l)) (omega (arith, m)) p))
+  where
+    go : (b : Bool) → has ws i ≡ b → cond b (f i x) x ≡ x
+    go true p = absurd (h i (omega arith) (omega arith) p)
+    go false p = refl
+
+-- where its members are below n, the first n words are changed, and only those
+pub changed-front : (ws : ℕ) (f g : ℕ → ℕ → ℕ) (n i : ℕ) (xs : List ℕ) → ((d v : ℕ) → d < i + n → f d v ≡ g d v)
+    → ((d : ℕ) → d < i + length xs → has ws d ≡ true → d < i + n) → changed ws f i xs ≡ changed ws g i (take n xs) ++ drop n xs
+unfolding changed
+changed-front ws f g zero i xs same within = changed-outside ws f i xs (λ d l m p. omega (arith, l, within d m p))
+changed-front ws f g (suc n) i [] same within = refl
+changed-front ws f g (suc n) i (x ∷ xs) same within =
+    ap₂ ◌∷◌ (ap (λ (v : ℕ). cond (has ws i) v x) (same i x (omega arith)))
+    (changed-front ws f g n (suc i) xs (λ d v l. same d v (omega (arith, l))) (λ d l p. omega (arith, within d (omega (arith, l)) p)))
 
 -- ---- a list's part from n to its end, as it is lent
 

@@ -30,14 +30,16 @@ pub none_done : (m : Machine) (cs ps : List ℕ) → BlankOrSound m cs ps → (a
     → Done cs ps (record { answer = a; world = held m cs ps }) (record { machine = m; answer = a }) cs ps
 none_done m cs ps h a = (refl, (refl, (h, (sym (over-own m.objects cs), sym (over-own (m.cores * m.objects) ps)))))
 
-pub refused_done : (m : Machine) (cs ps : List ℕ) → BlankOrSound m cs ps → (a a' : Answer) → a' ≡ a
-    → Done cs ps (record { answer = a; world = held m cs ps }) (record { machine = m; answer = a' }) cs ps
-refused_done m cs ps h a a' same =
-    subst (λ (x : Answer). Done cs ps (record { answer = a; world = held m cs ps }) (record { machine = m; answer = x }) cs ps) (sym same) (none_done m cs ps h a)
-
+-- what is done may be said of equal tables and an equal outcome
 pub done-same : (cs₀ ps₀ : List ℕ) (x : Result) {r r' : Outcome} {cs cs' ps ps' : List ℕ} → cs ≡ cs' → ps ≡ ps' → r ≡ r' → Done cs₀ ps₀ x r' cs' ps'
     → Done cs₀ ps₀ x r cs ps
 done-same cs₀ ps₀ x a b c d = rw (a, b, c) d
+
+-- no call is made, and the answer equals the one that is expected
+pub refused_done : (m : Machine) (cs ps : List ℕ) → BlankOrSound m cs ps → (a a' : Answer) → a' ≡ a
+    → Done cs ps (record { answer = a; world = held m cs ps }) (record { machine = m; answer = a' }) cs ps
+refused_done m cs ps h a a' same =
+    done-same cs ps _ refl refl (ap (λ (x : Answer). record { machine = m; answer = x }) same) (none_done m cs ps h a)
 
 module _ (m : Machine) (cs ps : List ℕ) (g : WellFormedWorld (held m cs ps)) (cl : length cs ≡ 64) (pl : length ps ≡ 1024) (call : Call) (r : Outcome) where
   -- the call was lent the first words, and left them as cs' and ps'

@@ -109,6 +109,17 @@ module _ (r₀ : Reading) (cs₀ ps₀ out₀ chunk : List ℕ) (r : Reading) (c
       rw (part-last out written, append-nil part)
       (reads r' cs' ps' k part fit' listed' few (rest-kept ∙ ap (drop k) (part-whole out written)) (long ∙ ap length (part-whole out written)) within step)
 
+  -- the byte is a newline, and ends a line
+  pub newline-reads : b ≡ 10 → (r' : Reading) (cs' ps' : List ℕ) (k : ℕ) (part : List ℕ) → ReadingFits r' cs' ps'
+      → ((bytes : List ℕ) → rest r cs ps (10 ∷ bytes) ≡ take k part ++ rest r' cs' ps' bytes) → k ≤ 32
+      → drop k part ≡ drop k (take (length out - written) (drop written out))
+      → length part ≡ length (take (length out - written) (drop written out)) → written ≤ length out
+      → state r' cs' ps' ≡ after_byte (state r cs ps) 10
+      → Feeding r₀ cs₀ ps₀ out₀ chunk r' cs' ps' (take written out ++ (part ++ drop (length out - written) (drop written out))) (written + k) (i + 1)
+  newline-reads newline r' cs' ps' k part fit' listed' few rest-kept long within step =
+      feeding-reads r' cs' ps' k part fit' (λ bytes. ap (λ (x : ℕ). rest r cs ps (x ∷ bytes)) newline ∙ listed' bytes) few rest-kept long within
+      (step ∙ ap (after_byte (state r cs ps)) (sym newline))
+
 -- what was written leaves room for a line, as long as a byte of the chunk is left
 pub room-left : {r₀ : Reading} {cs₀ ps₀ out₀ chunk : List ℕ} {r : Reading} {cs ps out : List ℕ} {written i : ℕ}
     → Feeding r₀ cs₀ ps₀ out₀ chunk r cs ps out written i → i < length chunk → 32 * length chunk ≤ length out₀ → written + 32 ≤ length out

@@ -4,7 +4,6 @@ mod Setups
 mod Acts
 mod Sizes
 mod ByCall
-pub mod InPlace
 mod Asking
 mod LineLaws
 mod Stepping

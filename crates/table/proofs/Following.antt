@@ -20,6 +20,10 @@ use Rattle.table.proofs.Laws.{some-piece}
 abbrev pub pieces_from : ℕ → List ℕ → ℕ → List (List ℕ)
 pieces_from at line from = cond (leb from (length line)) (pieces at (drop from line)) []
 
+-- up to the end of the line they are the pieces of what is left
+pieces-some : (at : ℕ) (line : List ℕ) (from : ℕ) → from ≤ length line → pieces at (drop from line) ≡ pieces_from at line from
+pieces-some at line from h = rw (le-leb from (length line) h) refl
+
 pub pieces_none : (at : ℕ) (line : List ℕ) (from : ℕ) → length line < from → pieces_from at line from ≡ []
 pieces_none at line from h = rw (lt-leb from (length line) h)
 
@@ -60,17 +64,26 @@ unfolding without_last_empty
 only_one [] h = absurd (omega arith)
 only_one (b ∷ bs) h = refl
 
+-- a line is a piece, and what follows it are the lines of what follows
 pub lines_next : (file : List ℕ) (from to : ℕ) → to ≡ piece_end (byte "\n") file from → from < length file
     → lines_from file from ≡ bytes_between from to file ∷ lines_from file (to + 1)
 unfolding lines
 lines_next file from to e h = go (ltb to (length file)) refl
   where
-    go : (t : Bool) → ltb to (length file) ≡ t → lines_from file from ≡ bytes_between from to file ∷ lines_from file (to + 1)
+    line : List ℕ
+    line = bytes_between from to file
+
+    cut : pieces (byte "\n") (drop from file) ≡ line ∷ pieces_from (byte "\n") file (to + 1)
+    cut = pieces-some (byte "\n") file from (omega (arith, h)) ∙ pieces-next (byte "\n") file from to e (omega (arith, h))
+
+    go : (t : Bool) → ltb to (length file) ≡ t → lines_from file from ≡ line ∷ lines_from file (to + 1)
     go true t =
         let l : to < length file = ltb-true to (length file) t in
-        ap without_last_empty (cut_at (byte "\n") file from to e l) ∙ more-than-one _ (pieces (byte "\n") (drop (to + 1) file)) (_, _, some-piece (byte "\n") (drop (to + 1) file))
+        let more = pieces-some (byte "\n") file (to + 1) (omega (arith, l)) in
+        ap without_last_empty (cut ∙ ap (λ (ps : List (List ℕ)). line ∷ ps) (sym more))
+        ∙ more-than-one line (pieces (byte "\n") (drop (to + 1) file)) (_, _, some-piece (byte "\n") (drop (to + 1) file))
     go false t =
         let l : length file ≤ to = ltb-false to (length file) t in
-        let m : length file ≤ to + 1 = omega arith in
-        ap without_last_empty (cut-last (byte "\n") file from to e l) ∙ only_one (drop from file) (omega (arith, length-drop from file))
-        ∙ rw (between-all file from to l, sym (lines_none file (to + 1) m))
+        ap without_last_empty (cut ∙ ap (λ (ps : List (List ℕ)). line ∷ ps) (pieces_none (byte "\n") file (to + 1) (omega (arith, l))))
+        ∙ only_one line (omega (arith, h, ap length (between-all file from to l), length-drop from file))
+        ∙ ap (λ (ls : List (List ℕ)). line ∷ ls) (sym (lines_none file (to + 1) (omega (arith, l))))

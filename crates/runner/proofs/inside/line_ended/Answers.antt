@@ -1,12 +1,12 @@
 -- `runner::inside::line_ended` meets its contract: each thing that a line may ask for is carried out by the rule.
-use Rattle.std.proofs.Common.{◌≡◌, ℕ, true, refl, ◌∙◌}
+use Rattle.std.proofs.Common.{◌≡◌, ℕ, true, refl, ◌∙◌, arith}
 use Rattle.machine.specs.Inside.{WellFormedWorld}
 use Rattle.machine.specs.Rule.{World, Result, rule, commit, Commit}
 use Rattle.request.specs.declared.Asked.{Asked}
 use Rattle.runner.specs.Kept.{held}
 use Rattle.runner.proofs.Asking.{calls, founded}
 use Rattle.runner.proofs.Acts.{refused_done}
-use Rattle.runner.proofs.Sizes.{good-if-some}
+use Rattle.runner.proofs.Sizes.{own-words, good-if-some}
 use Rattle.runner.proofs.ByCall.{setup-done, access-done, commit-done}
 use Rattle.runner.proofs.Endings.{order-ended, line-ended}
 use Rattle.runner.proofs.inside.line_ended.Goals as goal
@@ -26,6 +26,13 @@ commit-given-requires c = (good (goal.at.commit-given-requires c).After-end_line
 
 pub access-given-requires : goal.access-given-requires
 access-given-requires c = (good (goal.at.access-given-requires c).After-end_line-asked _ c.in-One.is refl).world_sound
+
+-- the words that a call is lent lie within the table
+pub slice_bounds-commit-end : goal.slice_bounds-commit-end
+slice_bounds-commit-end c = omega (arith, own-words _ _ _ c.requires.0.holds, c.requires.0.holds.pending_long)
+
+pub slice_bounds-access-end : goal.slice_bounds-access-end
+slice_bounds-access-end c = omega (arith, own-words _ _ _ c.requires.0.holds, c.requires.0.holds.pending_long)
 
 pub returns-in-Order : goal.returns-in-Order
 returns-in-Order c =
