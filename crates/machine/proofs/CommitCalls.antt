@@ -1,8 +1,7 @@
 -- What a commit gives where it finds its core, by what stands there and who is first ahead, is what the rule gives.
-use Rattle.std.proofs.Common.{◌≡◌, ℕ, ◌<◌, Bool, true, false, cond, ltb, Option, None, Some, Result, Ok, Err, length, sym, refl, ap, ◌∙◌, subst, arith, ltb-false, ltb-true}
+use Rattle.std.proofs.Common.{◌≡◌, ℕ, ◌<◌, Bool, true, false, cond, Option, None, Some, Result, Ok, Err, length, sym, refl, ap, ◌∙◌, subst, arith}
 use Rattle.one_core.specs.declared.Answer.TheVariants.{Waits, SetBack, Refused}
 use Rattle.one_core.specs.declared.refusal.Refusal.{Refusal}
-use Rattle.one_core.specs.declared.refusal.Refusal.TheVariants.{NoSuchCore}
 use Rattle.one_core.specs.Life.{unmarked}
 use Rattle.machine.specs.declared.Machine.{Machine}
 use Rattle.machine.specs.Record.{core_at, put_core}
@@ -11,6 +10,7 @@ use Rattle.machine.specs.Rule as Rule
 use Rattle.machine.specs.Rule.{World, lent, with_machine, changed, moved, set_back_told, through, commit}
 use Rattle.machine.specs.OneCore.{found_core, first_holding, carried_out, waits_or, settled_at}
 use Rattle.machine.proofs.Facts.{core-place}
+use Rattle.machine.proofs.CoreCalls.{core-found, core-lacked}
 use Rattle.machine.proofs.CoreLists.{strikes-cleared}
 use Rattle.machine.proofs.CommitLaws.{waits-for, waits-for-nobody, commit-no-core, commit-none, commit-told, commit-waits, commit-through}
 
@@ -46,11 +46,17 @@ module _ (w : World) where
 
     -- what the commit gives, wherever it finds its core
     pub by-commit : let to : Result ℕ Refusal = found_core c m.cores in settled_at w to (ahead_at to) ≡ commit w c
-    by-commit = go (ltb c m.cores) refl
+    by-commit = go (found_core c m.cores) refl
       where
-        go : (p : Bool) → ltb c m.cores ≡ p → let to : Result ℕ Refusal = cond p (Ok c) (Err NoSuchCore) in settled_at w to (ahead_at to) ≡ commit w c
-        go true h = on-core (ltb-true _ _ h) (core_at m c).active (core_at m c).zombie (ahead_at (Ok c)) refl refl refl
-        go false h = commit-no-core w c f.is_sound f.committed_long f.pending_long (ltb-false _ _ h)
+        go : (to : Result ℕ Refusal) → to ≡ found_core c m.cores → settled_at w to (ahead_at to) ≡ commit w c
+        go (Ok x) e =
+            let there = core-found c m.cores x e in
+            subst (λ (y : ℕ). settled_at w (Ok y) (ahead_at (Ok y)) ≡ commit w c) (sym there.0)
+            (on-core there.1 (core_at m c).active (core_at m c).zombie (ahead_at (Ok c)) refl refl refl)
+        go (Err r) e =
+            let lacked = core-lacked c m.cores r e in
+            subst (λ (x : Refusal). settled_at w (Err x) None ≡ commit w c) (sym lacked.0)
+            (commit-no-core w c f.is_sound f.committed_long f.pending_long lacked.1)
 
     -- the same, of what code found and got
     pub by-commit-at : (to : Result ℕ Refusal) (ahead : Option ℕ) (r : Rule.Result) → to ≡ found_core c m.cores

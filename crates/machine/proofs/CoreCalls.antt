@@ -55,6 +55,14 @@ place-found c d cores objects at = go (ltb c cores) refl (ltb d objects) refl
     go true h false l e = cc
     go false h q l e = cc
 
+-- or it is refused
+pub core-lacked : (c cores : ℕ) (r : Refusal) → Err r ≡ found_core c cores → (r ≡ NoSuchCore) × (cores ≤ c)
+core-lacked c cores r = go (ltb c cores) refl
+  where
+    go : (p : Bool) → ltb c cores ≡ p → Err r ≡ cond p (Ok c) (Err NoSuchCore) → (r ≡ NoSuchCore) × (cores ≤ c)
+    go true h e = cc
+    go false h e = (cc, ltb-false c cores h)
+
 -- ---- what a call left, stored
 
 -- the answer, and the world with what the call left at that place
