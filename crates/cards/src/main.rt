@@ -4,7 +4,6 @@
 #![tactic(auto)]
 
 use runner::{Reading, inside};
-use std::io;
 use std::io::Read;
 use terminal::Failure;
 
@@ -22,7 +21,7 @@ fn main(rt: HostRuntime) {
 }
 
 // Runs the script on standard input to its end, or until nothing more is read, and prints its listing.
-fn run(rt: &(impl Input + Print)) -> Result<(), Failure<io::Error>> {
+fn run(rt: &(impl Input + Print)) -> Result<(), Failure> {
     let mut committed = [0u32; runner::COMMITTED_WORDS];
     let mut pending = [0u32; runner::PENDING_WORDS];
     let mut output = [0u8; ROOM];

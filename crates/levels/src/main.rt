@@ -7,7 +7,6 @@
 mod text;
 
 use sheet::LONGEST_SHEET;
-use std::io;
 use terminal::Failure;
 use text::{ROOM, put_sheet};
 
@@ -20,7 +19,7 @@ fn main(rt: HostRuntime) {
 }
 
 // Reads standard input to its end, or until the input is full, and prints what it is answered.
-fn run(rt: &(impl Input + Print)) -> Result<(), Failure<io::Error>> {
+fn run(rt: &(impl Input + Print)) -> Result<(), Failure> {
     let mut input = [0u8; LONGEST_SHEET + 1];
     let mut output = [0u8; ROOM];
     let n = terminal::fill(&mut rt.reader(), &mut input).map_err(Failure::Read)?;

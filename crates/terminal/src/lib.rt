@@ -6,12 +6,14 @@ ghost use Rattle.std.specs.Prelude.{◌<◌, ◌≤◌, length, take, IfOk};
 ghost use Rattle.std.specs.Io.KnownBytes.{Consumes, IsAtEnd};
 
 use std::env::{Env, FillError};
+use std::error::Error;
 use std::io::Read;
 use std::{fmt, io};
 
-// Why a run ends early. The error is a parameter: the words of io's own are the C library's, which a program reaches, and no library here.
+// Why a run ends early. The error is a parameter, and io's own where none is named. The words of io's own are the C library's, which a program
+// reaches, and no library here.
 #[derive(Debug, Drop)]
-pub enum Failure<E> {
+pub enum Failure<E = io::Error> {
     Read(E),
     Write(E),
 }
@@ -24,6 +26,8 @@ impl<E: fmt::Display> fmt::Display for Failure<E> {
         }
     }
 }
+
+impl<E: Error> Error for Failure<E> {}
 
 // Whether the program was given an argument. It promises nothing: std's contract has no word for the arguments.
 pub fn has_argument(rt: &impl Env) -> bool {
